@@ -151,6 +151,11 @@ function literal(n) {
 const part = (n) => tree(`kind.TplElement ${bytes(n.value.raw)} ${n.value.cooked === null ? "None" : `(Some ${bytes(n.value.cooked)})`} ${n.tail}`);
 const template = (n) => tree("kind.Tpl", list(n.expressions.map(expression)), list(n.quasis.map(part)));
 
+function functionExpression(n) {
+  if (n.async || n.generator) return tree("kind.FnExpr", n.id ? `ident ${bytes(n.id.name)}` : "absent", functionNode(n));
+  return `function_expression ${n.id ? `(ident ${bytes(n.id.name)})` : "absent"} ${functionNode(n).slice("function ".length)}`;
+}
+
 function expression(n) {
   switch (n.type) {
     case "Identifier": return ident(n.name);
@@ -161,9 +166,7 @@ function expression(n) {
     case "Super": return "super'";
     case "ArrayExpression": return `array ${trees(n.elements.map((e) => (e ? argument(e) : "absent")))}`;
     case "ObjectExpression": return `object ${trees(n.properties.map(property))}`;
-    case "FunctionExpression":
-      if (n.async || n.generator) return tree("kind.FnExpr", n.id ? `ident ${bytes(n.id.name)}` : "absent", functionNode(n));
-      return `function_expression ${n.id ? `(ident ${bytes(n.id.name)})` : "absent"} ${functionNode(n).slice("function ".length)}`;
+    case "FunctionExpression": return functionExpression(n);
     case "ArrowFunctionExpression": {
       const body = n.body.type === "BlockStatement" ? block(n.body) : expression(n.body);
       if (n.async) return tree("kind.ArrowExpr true false", list(n.params.map(pattern)), body, "absent", "absent");
@@ -302,6 +305,7 @@ function statement(n) {
       return tree("kind.NamedExport false", list(n.specifiers.map(exportSpecifier)), n.source ? expression(n.source) : "absent", "absent");
     case "ExportDefaultDeclaration":
       if (n.declaration.type === "ClassDeclaration") return tree("kind.ExportDefaultDecl", tree("kind.ClassExpr", n.declaration.id ? ident(n.declaration.id.name) : "absent", `class' ${classNode(n.declaration)}`));
+      if (n.declaration.type === "FunctionDeclaration") return tree("kind.ExportDefaultDecl", functionExpression(n.declaration));
       return tree("kind.ExportDefaultExpr", expression(n.declaration));
     case "ExportAllDeclaration": return tree("kind.ExportAll false", expression(n.source), "absent");
     case "ExpressionStatement": return `statement ${inner(expression(n.expression))}`;

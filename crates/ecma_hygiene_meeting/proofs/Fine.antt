@@ -31,7 +31,7 @@ use Rattle.ecma_hygiene_meeting.specs.Records.{IsFormed, IsRecord, is_constructo
 use Rattle.ecma_hygiene_meeting.specs.Texts.{KeepsFreeApart, TellsItsNames, TellsNames, sent}
 use Rattle.ecma_hygiene_meeting.proofs.Among.{and-false}
 use Rattle.ecma_hygiene_meeting.proofs.Clear.{StaysAt, Tells, clear-from, tells-child}
-use Rattle.ecma_hygiene_meeting.proofs.Looking.{Agrees, AllKnown, Below, Fine, K, Leaf, Opened, body-by, constructor-by, looks-by, meets-of, members-by, simple, top-by}
+use Rattle.ecma_hygiene_meeting.proofs.Looking.{Agrees, AllKnown, Below, Fine, K, Leaf, Opened, body-by, constructor-by, default-by, looks-by, meets-of, members-by, simple, top-by}
 use Rattle.ecma_hygiene_meeting.proofs.Roles.{body-not-root, no-body}
 
 -- parts of what is gathered
@@ -144,6 +144,8 @@ module _ (texts : Texts) (free : ℕ) (onto : ℕ → ℕ) (keeps : KeepsFreeApa
           (constructor-by texts free onto keeps empty own_free s.role s.scopes own tells n k cs (args-agree (no-block (constructor-no-block k e))) given.1.1.own_names below e);
       as_members = λ e one. subst (λ l. Opened texts free onto keeps empty own_free s.scopes l.meaning.parameter_names l.seeks.code_sought) (sym (seeker_out n))
           (members-by texts free onto keeps empty own_free s.role s.scopes own tells n k cs below e one);
+      as_default = λ e. subst (λ m. AllKnown texts free onto keeps empty own_free s.scopes m.default_names) (sym (meaning_out n))
+          (default-by texts free onto keeps empty own_free s.role s.scopes own tells n k cs below e (given.0.default e));
       meets = meets_out n ∙ and-both (meets_by (sent onto texts) k (map seeker cs)) (list_all (λ child. child.meets) (map (met (sent onto texts)) cs))
           (meets-of texts free onto keeps empty own_free s.role s.scopes own tells k cs given.1.0 given.1.1.own_names below given.1.1.parameters given.0.members) (all-meet s n 0 cs below);
     }

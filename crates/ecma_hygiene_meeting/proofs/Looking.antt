@@ -16,8 +16,9 @@ use Rattle.ecma_hygiene.proofs.Telling.{and-both, and-left, or-left, or-right, o
 use Rattle.ecma_hygiene.proofs.Walking.{append-none}
 use Rattle.ecma_runs.specs.State.{Id, default_name, Binding, same_id}
 use Rattle.ecma_runs.specs.Environment.{except, ids_of, is_among}
-use Rattle.ecma_runs.specs.Declarations.{all_parameter_names, has_no_effect}
+use Rattle.ecma_runs.specs.Declarations.{all_parameter_names, has_no_effect, name_or_default}
 use Rattle.ecma_runs.specs.Evaluation.{meaning, meaning_by, no_effect, role_by as role_meaning}
+use Rattle.ecma_runs.specs.Meaning.{Meaning}
 use Rattle.ecma_runs.specs.Sought.{Seeker, Sought, all_code_sought, all_sought, meanings, nothing_sought, outside_of, role_sought, seeker, sought_by, sought_by_body, sought_in, sought_of}
 use Rattle.ecma_runs.specs.Meeting.{body_meets, catches_none, meets_by, met}
 use Rattle.ecma_hygiene_meeting.specs.Records.{AreNoCode, HasMembers, IsBody, OneConstructor, declares_id, has_parts, has_record, is_constructor, record_names}
@@ -89,6 +90,7 @@ module _ (texts : Texts) (free : ℕ) (onto : ℕ → ℕ) (keeps : KeepsFreeApa
     pub as_body : is_function_body r ≡ true → (names : List Id) → Declares (innermost S) names → AsBody S names (seeker n)
     pub as_constructor : is_constructor (out-Node n).kind ≡ true → Opened S (meaning n).parameter_names (sought_in n).code_sought
     pub as_members : is_list (out-Node n).kind ≡ true → OneConstructor (out-Node n).children → Opened S (meaning n).parameter_names (sought_in n).code_sought
+    pub as_default : is_default r ≡ true → AllKnown S (meaning n).default_names
     pub meets : (met to n).meets ≡ true
 
   -- children, of which the first is the one at i
@@ -219,6 +221,8 @@ module _ (texts : Texts) (free : ℕ) (onto : ℕ → ℕ) (keeps : KeepsFreeApa
     looks-of kind.ExportDefaultExpr (e ∷ []) agree on below leaf m p root body =
         both-known S (default_name ∷ []) (sought_in e).sought (λ id h. subst (K S) (among-one default_name id h) (inl refl))
         (subst (AllKnown S) (append-nil (sought_in e).sought) (all-look kind.ExportDefaultExpr (is_there (e ∷ []) 1) (opens_by r kind.ExportDefaultExpr (is_there (e ∷ []) 0)) refl (agree refl) 0 (e ∷ []) below))
+    looks-of kind.ExportDefaultDecl (declaration ∷ []) agree on below leaf m p root body =
+        both-known S (meaning declaration).default_names (sought_in declaration).sought (below.0.as_default refl) (below.0.looks refl refl)
     looks-of (kind.TsImportEqualsDecl is_export false) (name ∷ source ∷ []) agree on below leaf m p root body =
         both-known S ((meaning name).names ++ (sought_in name).sought) (sought_in source).sought
         (both-known S (meaning name).names (sought_in name).sought (plain-names S name below.0) (plain S name below.0)) (plain S source below.1.0)
@@ -254,6 +258,37 @@ module _ (texts : Texts) (free : ℕ) (onto : ℕ → ℕ) (keeps : KeepsFreeApa
     looks-by kind.TsTypeParamInstantiation cs agree on below leaf m p root body = none-known S
     looks-by k cs agree on below leaf m p root body = λ id h.
         looks-of k cs agree on below leaf m p root body id (effective (has_no_effect k (meanings (map seeker cs))) (role_sought k (map seeker cs)) id h)
+
+    -- ---- default exports
+
+    default-if : (b : Bool) → AllKnown S (cond b (default_name ∷ []) [])
+    default-if true id h = subst (K S) (among-one default_name id h) (inl refl)
+    default-if false id h = absurd (true-false h refl)
+
+    named-known : (name : Node) → Fine role.Plain S name → AllKnown S (name_or_default (meaning name))
+    named-known name fine = both-known S (cond (meaning name).is_absent (default_name ∷ []) []) (meaning name).names (default-if (meaning name).is_absent) (plain-names S name fine)
+
+    if-effect : (n : Node) (k : Kind) (ms : List Meaning) (b : Bool) → AllKnown S (role_meaning n k ms).default_names → AllKnown S (cond b (no_effect n) (role_meaning n k ms)).default_names
+    if-effect n k ms true known = none-known S
+    if-effect n k ms false known = known
+
+    function-scopes : (there b : Bool) → b ≡ true → cond ((there && not b) && true) (S ++ own ∷ []) S ≡ S
+    function-scopes there b e = ap (λ z. cond ((there && not z) && true) (S ++ own ∷ []) S) e ∙ ap (λ z. cond (z && true) (S ++ own ∷ []) S) (and-false there)
+
+    class-scopes : (b : Bool) → b ≡ true → cond (not (b && true)) (S ++ own ∷ []) S ≡ S
+    class-scopes b e = ap (λ z. cond (not (z && true)) (S ++ own ∷ []) S) e
+
+    -- a function or a class has its name around it
+    pub default-by : (n : Node) (k : Kind) (cs : List Node) → Children k cs → is_default r ≡ true → belongs sort.DefaultDecl k ≡ true → AllKnown S (meaning_by n k (map meaning cs)).default_names
+    unfolding opens_by covers role_by
+    default-by n kind.FnExpr (name ∷ function ∷ []) below is e =
+        if-effect n kind.FnExpr (meaning name ∷ meaning function ∷ []) (has_no_effect kind.FnExpr (meaning name ∷ meaning function ∷ []))
+        (named-known name (subst (λ scopes. Fine role.Plain scopes name) (function-scopes (is_there (name ∷ function ∷ []) 0) (is_default r) is) below.0))
+    default-by n kind.FnExpr cs below is e = none-known S
+    default-by n kind.ClassExpr (name ∷ class ∷ []) below is e = named-known name (subst (λ scopes. Fine role.Plain scopes name) (class-scopes (is_default r) is) below.0)
+    default-by n kind.ClassExpr cs below is e = none-known S
+    default-by n (kind.TsInterfaceDecl declare) cs below is e = none-known S
+    default-by n _ cs below is e = absurd (true-false e refl)
 
     -- ---- constructors
 

@@ -98,6 +98,7 @@ pub record IsFormed (place : Place) : Type 0 where
   pub parts : has_parts (out-Node place.node).kind (out-Node place.node).children ≡ true
   pub body : is_function_body place.around.role ≡ true → IsBody (out-Node place.node).kind (out-Node place.node).children place.node
   pub members : HasMembers (out-Node place.node).kind (out-Node place.node).children
+  pub default : is_default place.around.role ≡ true → belongs sort.DefaultDecl (out-Node place.node).kind ≡ true
 
 -- a module in which each scope for which the evaluator makes a record is that record; its own scope has at least its variables, and what it exports, too,
 -- and at most what it declares (what stands where declarators do and is none has names that are declared nowhere)

@@ -65,6 +65,7 @@ layer-none n (kind.NamedExport type_only) cs e all source = absurd (cc)
 layer-none n (kind.ExportNamedSpecifier is_type_only) cs e all source = absurd (cc)
 layer-none n kind.ExportNamespaceSpecifier cs e all source = absurd (cc)
 layer-none n kind.ExportDefaultExpr cs e all source = absurd (cc)
+layer-none n kind.ExportDefaultDecl cs e all source = absurd (cc)
 layer-none n (kind.ExportAll type_only) cs e all source = absurd (cc)
 layer-none n k cs e all source = either-none (has_no_effect k (map meaning cs)) (no_effect n) (role_by n k (map meaning cs)) (λ source. refl) (λ source. refl) source
 

@@ -132,6 +132,7 @@ mute_same c m m' same = record {
   test = same.test;
   caught = same.caught;
   made = same.made;
+  default_made = same.default_made;
   class_made = same.class_made;
   defined = λ texts class object w s. outside_alike (at c _);
   fields = same.fields;
@@ -139,6 +140,7 @@ mute_same c m m' same = record {
   code = same.code;
   body = same.body;
   names = same.names;
+  default_names = same.default_names;
   lexicals = same.lexicals;
   vars = same.vars;
   locals = same.locals;
@@ -217,6 +219,8 @@ module _ (to : Id → Id) (m : Node) (renaming : Renames to m) where
   layer_kept : (k : Kind) (cs : List Node) → IsOther k cs → passes_by renaming.stands k ≡ true → AllNodes (Passes renaming.stands) cs → TextsStay to (at_names k (map key_names cs)) → KeptLayer change k (map meaning cs)
   layer_kept (kind.Ident text ctxt optional) cs o h p t = (h, renaming.this_stays (record { sym = text; ctxt = ctxt }) h)
   layer_kept kind.ExportDefaultExpr cs o h p t = renaming.default_stays
+  layer_kept kind.FnExpr cs o h p t = renaming.default_stays
+  layer_kept kind.ClassExpr cs o h p t = renaming.default_stays
   layer_kept (kind.NamedExport type_only) (specifiers ∷ source ∷ attributes ∷ []) o h p t = listed source t
   layer_kept (kind.ExportNamedSpecifier is_type_only) (exported ∷ name ∷ []) o h p t = (listed exported (stay_first to (keys_of exported).here (keys_of name).here t), listed name (stay_rest to (keys_of exported).here (keys_of name).here t))
   layer_kept kind.ExportNamespaceSpecifier (name ∷ []) o h p t = listed name t

@@ -70,7 +70,7 @@ function-by n (kind.Function g a) (c ∷ d ∷ f ∷ i ∷ j ∷ cs) b h e = abs
 function-by n _ cs b h e = absurd (true-false b refl)
 
 -- a function with a body is a value
-function-value : (f : Node) → HasShape (one sort.Function) f → (meaning f).has_body ≡ true → is_value_where true f ≡ true
+pub function-value : (f : Node) → HasShape (one sort.Function) f → (meaning f).has_body ≡ true → is_value_where true f ≡ true
 function-value f h e =
     let s = shape_out (one sort.Function) f h in
     is_value_where-out true f ∙ function-by f (out-Node f).kind (out-Node f).children s.0 s.1 (sym (ap (λ m. m.has_body) (meaning_out f)) ∙ e)
@@ -121,7 +121,7 @@ module _ (id : Id) where
   none-found i [] = refl
   none-found i (c ∷ cs) = none-found (suc i) cs
 
-  pub none-lexicals : (b : Bool) (n : Node) (m : Meaning) → m.lexicals ≡ [] → is_among id (ids_of (cond b (no_effect n) m).lexicals) ≡ false
+  none-lexicals : (b : Bool) (n : Node) (m : Meaning) → m.lexicals ≡ [] → is_among id (ids_of (cond b (no_effect n) m).lexicals) ≡ false
   none-lexicals true n m e = refl
   none-lexicals false n m e = ap (λ z. is_among id (ids_of z)) e
 

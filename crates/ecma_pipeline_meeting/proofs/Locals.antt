@@ -1,5 +1,5 @@
 -- The variables of a module that exports no value as the default are declared in its scope.
-use Rattle.std.proofs.Common.{◌≡◌, ◌⊎◌, inl, inr, refl, sym, ap, ◌∙◌, ℕ, suc, List, [], ◌∷◌, ◌++◌, map, length, replicate, Option, Some, None, Bool, true, false, cond, ◌||◌, codes}
+use Rattle.std.proofs.Common.{◌≡◌, ◌⊎◌, inl, inr, refl, sym, ap, ◌∙◌, subst, ℕ, suc, List, [], ◌∷◌, ◌++◌, map, length, replicate, Option, Some, None, Bool, true, false, cond, ◌||◌, codes}
 use Rattle.std.proofs.lemmas.Bool.{or_parts}
 use Rattle.ecma_kind.specs.Sorts.{belongs}
 use Rattle.ecma_kind.specs.declared.kind.Kind.{Kind}
@@ -9,14 +9,16 @@ use Rattle.ecma_kind.specs.declared.shapes.Sort.TheVariants as sort
 use Rattle.ecma_tree.specs.declared.node.Node.{Node, out-Node}
 use Rattle.ecma_tree.specs.Laws.{HaveShapes}
 use Rattle.ecma_tree.specs.Sorted.{HasShape, child_shapes, is_list, one, shape_of}
-use Rattle.ecma_tree.specs.Values.{is_value_where}
+use Rattle.ecma_tree.specs.Values.{is_value_where, value_by}
+use Rattle.ecma_tree.proofs.Valuing.{is_value_where-out, value_where_by}
 use Rattle.ecma_fits.specs.declared.unfit.Where.{Where}
 use Rattle.ecma_fits.specs.Fitting.{where_in}
 use Rattle.ecma_fits.specs.Roles.{is_out_of_role}
 use Rattle.ecma_scope.specs.declared.form.Form.TheVariants as form
 use Rattle.ecma_scope.specs.declared.form.Part.TheVariants as part
+use Rattle.ecma_scope.specs.declared.form.Sought.{Sought}
 use Rattle.ecma_scope.specs.declared.role.Role.TheVariants as role
-use Rattle.ecma_scope.specs.Declarations.{holds_vars, in_item, in_scope, in_var, sought_in}
+use Rattle.ecma_scope.specs.Declarations.{holds_vars, in_default, in_item, in_scope, in_var, sought_in}
 use Rattle.ecma_hygiene.specs.Ids.{is_body_block, is_own, innermost}
 use Rattle.ecma_hygiene.specs.Sights.{own_scope}
 use Rattle.ecma_hygiene.proofs.Telling.{and-both, or-first, or-second, true-false}
@@ -25,16 +27,16 @@ use Rattle.ecma_hygiene_scopes.proofs.Membership.{own-agrees}
 use Rattle.ecma_hygiene_runs.specs.Plain.{is_plain, is_plain_kind, plain_by}
 use Rattle.ecma_runs.specs.State.{Binding, Id, default_name}
 use Rattle.ecma_runs.specs.Exports.{Exported, Local, Indirect, Star, local_ids}
-use Rattle.ecma_runs.specs.Environment.{ids_of, import_of, is_among}
+use Rattle.ecma_runs.specs.Environment.{empty, ids_of, import_of, is_among}
 use Rattle.ecma_runs.specs.Meaning.{Meaning}
 use Rattle.ecma_runs.specs.Declarations.{all_exports, all_imported, all_lexicals, all_vars, has_no_effect, imported_as, imported_from}
 use Rattle.ecma_runs.specs.Evaluation.{meaning, meaning_by, no_effect, role_by}
 use Rattle.ecma_runs.specs.Observation.{exports_in}
 use Rattle.ecma_runs.proofs.Layer.{meaning_out}
 use Rattle.ecma_hygiene_meeting.specs.Records.{declares_id}
-use Rattle.ecma_pipeline_meeting.proofs.Items.{is_item, item-are, none-lexicals}
-use Rattle.ecma_pipeline_meeting.proofs.Parts.{AllPlain, among-append, ids-append, ids-made, kept, kept-append, kept-nil, kept-out, plain-effect, plain-head, plain-kind, plain-out, plain-tail, sound-out}
-use Rattle.ecma_pipeline_meeting.proofs.Patterns.{ident-named, name_sought, shape_out}
+use Rattle.ecma_pipeline_meeting.proofs.Items.{function-value, is_item, item-are}
+use Rattle.ecma_pipeline_meeting.proofs.Parts.{AllPlain, among-append, ids-append, ids-made, kept, kept-append, kept-nil, kept-out, not-false, plain-effect, plain-head, plain-kind, plain-out, plain-tail, sound-out}
+use Rattle.ecma_pipeline_meeting.proofs.Patterns.{ident-named, name_sought, own-named, shape_out}
 use Rattle.ecma_pipeline_meeting.proofs.Scopes.{Placed, own-found, scope-kept}
 use Rattle.ecma_pipeline_meeting.proofs.Variables.{has-vars, inner-kind, is_inner, item_sought, var_sought}
 use Rattle.ecma_pipeline_meeting.proofs.Walks.{Each}
@@ -63,6 +65,13 @@ neither-default : (xs ys : List Exported) → NoDefault (xs ++ ys) → NoDefault
 neither-default xs ys h =
     or_parts (is_among default_name (local_ids xs)) (is_among default_name (local_ids ys))
     (sym (ap (is_among default_name) (local-append xs ys) ∙ among-append default_name (local_ids xs) (local_ids ys)) ∙ h)
+
+local-made : (name : Option (List ℕ)) (ids : List Id) → local_ids (map (Local name) ids) ≡ ids
+local-made name [] = refl
+local-made name (id ∷ ids) = ap (λ z. id ∷ z) (local-made name ids)
+
+abbrev default_sought : Sought
+default_sought = record { part = part.Default; stays = true }
 
 -- a declaration that is exported
 exported-item : (k : Kind) → belongs sort.Decl k ≡ true → is_plain_kind k ≡ true → is_item k ≡ true
@@ -226,6 +235,48 @@ module _ (id : Id) where
   default-none true n m none a = true-false a refl
   default-none false n m none a = true-false refl none
 
+  -- a function or a class that is exported as the default
+
+  named-only : (b : Bool) (names : List Id) → is_among default_name (cond b (default_name ∷ []) [] ++ names) ≡ false → is_among id (cond b (default_name ∷ []) [] ++ names) ≡ true → is_among id names ≡ true
+  named-only true names none a = absurd (true-false refl none)
+  named-only false names none a = a
+
+  default-by : (value : Bool) (d : Node) (k : Kind) (ds : List Node) → belongs sort.DefaultDecl k ≡ true → HaveShapes (child_shapes k (one sort.DefaultDecl) (length ds)) ds → plain_by k ds ≡ true → value_where_by true k ds ≡ value
+      → is_among default_name (meaning_by d k (map meaning ds)).default_names ≡ false → is_among id (meaning_by d k (map meaning ds)).default_names ≡ true
+      → Kept (id_here default_sought k ++ ids_in (λ i. in_default true value k i) 0 (map ids_declared ds))
+  unfolding in_default value_by
+  default-by value d kind.FnExpr (name ∷ function ∷ []) b h p v none a =
+      let e : has_no_effect kind.FnExpr (meaning name ∷ meaning function ∷ []) ≡ false = plain-effect kind.FnExpr name (function ∷ []) p in
+      let is : value ≡ true = sym v ∙ function-value function h.1.0 (not-false (meaning function).has_body e) in
+      let names : Bool → List Id = λ t. (cond t (no_effect d) (role_by d kind.FnExpr (meaning name ∷ meaning function ∷ []))).default_names in
+      ap (λ t. kept id (ids_declared name (record { part = part.Name form.Function; stays = t }) ++ [])) is
+      ∙ kept-nil id (ids_declared name (name_sought form.Function)) ∙ own-named id form.Function name h.0
+      ∙ named-only (meaning name).is_absent (meaning name).names (subst (λ t. is_among default_name (names t) ≡ false) e none) (subst (λ t. is_among id (names t) ≡ true) e a)
+  default-by value d kind.FnExpr [] b h p v none a = absurd h
+  default-by value d kind.FnExpr (c ∷ []) b h p v none a = absurd h.1
+  default-by value d kind.FnExpr (c ∷ e ∷ f ∷ cs) b h p v none a = absurd h.1.1
+  default-by value d kind.ClassExpr (name ∷ class ∷ []) b h p v none a =
+      kept-nil id (ids_declared name (name_sought form.Class)) ∙ own-named id form.Class name h.0 ∙ named-only (meaning name).is_absent (meaning name).names none a
+  default-by value d kind.ClassExpr [] b h p v none a = absurd h
+  default-by value d kind.ClassExpr (c ∷ []) b h p v none a = absurd h.1
+  default-by value d kind.ClassExpr (c ∷ e ∷ f ∷ cs) b h p v none a = absurd h.1.1
+  default-by value d (kind.TsInterfaceDecl declare) ds b h p v none a = absurd (true-false a refl)
+  default-by value d _ ds b h p v none a = absurd (true-false b refl)
+
+  default-kept : (d : Node) → HasShape (one sort.DefaultDecl) d → is_plain d ≡ true → is_among default_name (meaning d).default_names ≡ false → is_among id (meaning d).default_names ≡ true → Kept (ids_declared d default_sought)
+  unfolding sought_in
+  default-kept d h plain none a =
+      let s = shape_out (one sort.DefaultDecl) d h in
+      kept-out id d default_sought
+      ∙ default-by (is_value_where true d) d (out-Node d).kind (out-Node d).children s.0 s.1 (plain-out d plain).0 (sym (is_value_where-out true d))
+      (sym (ap (λ m. is_among default_name m.default_names) (meaning_out d)) ∙ none) (sym (ap (λ m. is_among id m.default_names) (meaning_out d)) ∙ a)
+
+  exported-default : (b : Bool) (n : Node) (m : Meaning) → NoDefault ((cond b (no_effect n) (role_by n kind.ExportDefaultDecl (m ∷ []))).exports None)
+      → Among (cond b (no_effect n) (role_by n kind.ExportDefaultDecl (m ∷ []))).lexicals → (is_among default_name m.default_names ≡ false) × (is_among id m.default_names ≡ true)
+  exported-default true n m none a = absurd (true-false a refl)
+  exported-default false n m none a =
+      (sym (ap (is_among default_name) (local-made (Some (codes "default")) m.default_names)) ∙ none, sym (ap (is_among id) (ids-made (empty false) (λ x. refl) m.default_names)) ∙ a)
+
   outer-by : (value : Bool) (n : Node) (k : Kind) (cs : List Node) (around : ℕ → Where) → Each (λ i c. Placed (around i) c) 0 cs → NoDefault ((meaning_by n k (map meaning cs)).exports None)
       → belongs sort.ModuleItem k ≡ true → is_item k ≡ false → HaveShapes (child_shapes k (one sort.ModuleItem) (length cs)) cs → AllPlain cs → plain_by k cs ≡ true
       → Among (meaning_by n k (map meaning cs)).lexicals → Kept (id_here item_sought k ++ ids_in (λ i. in_item true value k i) 0 (map ids_declared cs))
@@ -248,8 +299,11 @@ module _ (id : Id) where
   outer-by value n kind.ExportDefaultExpr (e ∷ []) around placed none b i h plain p a = absurd (default-none (has_no_effect kind.ExportDefaultExpr (meaning e ∷ [])) n (meaning e) none a)
   outer-by value n kind.ExportDefaultExpr [] around placed none b i h plain p a = absurd h
   outer-by value n kind.ExportDefaultExpr (c ∷ d ∷ cs) around placed none b i h plain p a = absurd h.1
-  outer-by value n kind.ExportDefaultDecl cs around placed none b i h plain p a =
-      absurd (true-false a (none-lexicals id (has_no_effect kind.ExportDefaultDecl (map meaning cs)) n (role_by n kind.ExportDefaultDecl (map meaning cs)) refl))
+  outer-by value n kind.ExportDefaultDecl (d ∷ []) around placed none b i h plain p a =
+      let e = exported-default (has_no_effect kind.ExportDefaultDecl (meaning d ∷ [])) n (meaning d) none a in
+      kept-nil id (ids_declared d default_sought) ∙ default-kept d h.0 (plain-head d [] plain) e.0 e.1
+  outer-by value n kind.ExportDefaultDecl [] around placed none b i h plain p a = absurd h
+  outer-by value n kind.ExportDefaultDecl (c ∷ d ∷ cs) around placed none b i h plain p a = absurd h.1
   outer-by value n (kind.TsImportEqualsDecl x y) cs around placed none b i h plain p a = absurd (true-false (plain-kind (kind.TsImportEqualsDecl x y) cs p) refl)
   outer-by value n (kind.TsEnumDecl x y) cs around placed none b i h plain p a = absurd (true-false (plain-kind (kind.TsEnumDecl x y) cs p) refl)
   outer-by value n (kind.TsModuleDecl x y) cs around placed none b i h plain p a = absurd (true-false (plain-kind (kind.TsModuleDecl x y) cs p) refl)

@@ -363,4 +363,5 @@ formed n s h =
       parts = parts-by (out-Node n).kind h.shape (out-Node n).children shapes.1;
       body = h.body;
       members = members-by n (out-Node n).kind h.shape (out-Node n).children shapes.1 (plain-out n h.plain).1 (sound-out (λ w node. has_second_constructor node) h.w n h.single).0 refl;
+      default = h.default;
     }

@@ -162,6 +162,7 @@ module _ (known : Known) where
     test = same.test;
     caught = same.caught;
     made = same.made;
+    default_made = same.default_made;
     class_made = same.class_made;
     defined = same.defined;
     fields = same.fields;
@@ -169,6 +170,7 @@ module _ (known : Known) where
     code = same.code;
     body = same.body;
     names = same.names;
+    default_names = same.default_names;
     lexicals = same.lexicals;
     vars = same.vars;
     locals = same.locals;

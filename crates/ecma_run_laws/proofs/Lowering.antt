@@ -312,6 +312,7 @@ module _ (known : Known) where
           test = λ w s. outside_alike (at c _);
           caught = λ v w s. outside_alike (at c _);
           made = λ sort home w s. outside_alike (at c _);
+          default_made = λ w s. outside_alike (at c _);
           class_made = λ ids outer opens w s. outside_alike (at c _);
           defined = λ texts class object w s. outside_alike (at c _);
           fields = λ keys object w s. outside_alike (at c _);
@@ -319,6 +320,7 @@ module _ (known : Known) where
           code = λ u arguments w s. outside_alike (at c _);
           body = λ names outer opens w s. bind_alike (at c _) {A = Value} (outside_alike (at c _)) (λ v. return_alike (at c _) v);
           names = refl;
+          default_names = refl;
           lexicals = refl;
           vars = refl;
           locals = refl;

@@ -57,6 +57,8 @@ module _ (gone : Id → Bool) (default : stands gone default_name ≡ true) (kno
   layer_kept : (k : Kind) (cs : List Node) → passes_by (stands gone) k ≡ true → AllNodes (IsFine gone) cs → KeptLayer c k (map meaning cs)
   layer_kept (kind.Ident text ctxt optional) cs h all = (h, refl)
   layer_kept kind.ExportDefaultExpr cs h all = (default, refl)
+  layer_kept kind.FnExpr cs h all = (default, refl)
+  layer_kept kind.ClassExpr cs h all = (default, refl)
   layer_kept (kind.NamedExport type_only) (specifiers ∷ source ∷ attributes ∷ []) h all = texts_stay (meaning source).shorthands
   layer_kept (kind.ExportNamedSpecifier is_type_only) (exported ∷ name ∷ []) h all = (texts_stay (meaning exported).shorthands, texts_stay (meaning name).shorthands)
   layer_kept kind.ExportNamespaceSpecifier (name ∷ []) h all = texts_stay (meaning name).shorthands

@@ -7,17 +7,17 @@ use Rattle.ecma_kind.specs.declared.operators.MethodKind.TheVariants as method
 use Rattle.ecma_tree.specs.declared.node.Node.{Node}
 use Rattle.ecma_runs.specs.Values.{Value, Null, Own, Host, Error}
 use Rattle.ecma_runs.specs.Meaning.{inside}
-use Rattle.ecma_runs.specs.State.{Id, Entered, Binding, Sort, Plain, Method, Arrow, BaseClass, DerivedClass}
+use Rattle.ecma_runs.specs.State.{Id, default_name, Entered, Binding, Sort, Plain, Method, Arrow, BaseClass, DerivedClass}
 use Rattle.ecma_runs.specs.Run.{◌>>=◌, give}
 use Rattle.ecma_runs.specs.Environment.{ids_of, resolved, empty, except, have_one_of}
 use Rattle.ecma_runs.specs.Objects.{Calling, Function, BoundFunction, define_data, with_getter, with_setter}
 use Rattle.ecma_runs.specs.Functions.{read, first_or_undefined, new_function, prototype_entries}
-use Rattle.ecma_runs.specs.Classes.{class_in, made_of, body_of, run_body, run_code, all_code, class_code, code_of, checked_target, checked_calling, parent_class, parent_prototype, heritage, field_activation, class_value, class_made_of, define_method, sets_prototype, literal_key, all_defined, defined_of, define_field, field_with, all_fields, fields_of, all_statics, statics_of}
-use Rattle.ecma_runs.specs.Declarations.{all_shorthands, shorthands_of, locals_of}
+use Rattle.ecma_runs.specs.Classes.{class_in, made_of, default_made_of, body_of, run_body, run_code, all_code, class_code, code_of, checked_target, checked_calling, parent_class, parent_prototype, heritage, field_activation, class_value, class_made_of, define_method, sets_prototype, literal_key, all_defined, defined_of, define_field, field_with, all_fields, fields_of, all_statics, statics_of}
+use Rattle.ecma_runs.specs.Declarations.{all_shorthands, shorthands_of, locals_of, default_names_of}
 use Rattle.ecma_runs.proofs.Names.{changed_entered, changed_scope, changed_ids, changed_bindings, changed_bindings-append, except-changed}
 use Rattle.ecma_runs.specs.Sought.{meanings, all_sought, all_code_sought, sought_by_body, code_sought_of, sought_of, body_sought_of}
 use Rattle.ecma_runs.proofs.Names.{Unless, unless_map, unless_both, EachTold, each_unless, among_first}
-use Rattle.ecma_runs.proofs.Scopes.{ids_of-empties, Opens, opened, in_empty, body_stands, not_caught, each_told, one, two, rest}
+use Rattle.ecma_runs.proofs.Scopes.{ids_of-empties, Opens, opened, in_empty, body_stands, named_stand, not_caught, each_told, one, two, rest}
 use Rattle.ecma_runs.proofs.Alike.{Change, Standing, Alike, bind_by, bind_alike, give_alike, throw_alike, return_alike, outside_alike, when_alike}
 use Rattle.ecma_runs.proofs.Environments.{beside, Knows, enter_alike, set_all_alike, KeepTexts, resolved_alike}
 use Rattle.ecma_runs.proofs.Objects.{calling_at_alike, define_alike, define_data_alike, keep_field_keys_alike}
@@ -47,6 +47,17 @@ module _ (c : Change) {a : List Entered} (w : World (at c a)) where
   pub made_alike : (n : Node) → c.fine n → (k : Kind) (ps : List (Both c)) → PlacedNode c n w.scope k (seekers c ps) → (sort : Sort) (home : Option ℕ) → Alike d (made_of n k (firsts c ps) sort home (first d w)) (made_of (c.node n) (renamed_kind c k) (seconds c ps) sort home (second d w))
   made_alike n fine (kind.Function false false) ps h sort home = make_function_alike d w n sort home fine (function_keeps n ps h)
   made_alike n fine _ ps h sort home = outside_alike d
+
+  without_default : (b : Bool) (ids sought : List Id) → Standing c w.scope ((cond b (default_name ∷ []) [] ++ ids) ++ sought) → Standing c w.scope (ids ++ sought)
+  without_default true ids sought s = rest c.names (default_name ∷ []) (ids ++ sought) s
+  without_default false ids sought s = s
+
+  pub default_made_alike : (k : Kind) (ps : List (Both c)) → Unless c.names.plain (OpensLayer c k (seekers c ps)) → Standing c w.scope (default_names_of k (firsts c ps) ++ sought_of k (seekers c ps))
+      → Alike d (default_made_of k (firsts c ps) (first d w)) (default_made_of (renamed_kind c k) (seconds c ps) (second d w))
+  default_made_alike kind.FnExpr (name ∷ function ∷ []) o s =
+      let outer : List Id = sought_of kind.FnExpr (name.0 ∷ function.0 ∷ []) in
+      function.2.made Plain None w (named_stand c.names name.0.meaning.names outer function.0.seeks.sought o (without_default name.0.meaning.is_absent name.0.meaning.names outer s))
+  default_made_alike _ ps o s = outside_alike d
 
   -- what is told of a body, or nothing has to be
   each_of : (names ids : List Id) → Unless c.names.plain (EachTold c.names names ids) → EachTold c.names names ids

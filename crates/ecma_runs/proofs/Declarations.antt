@@ -3,11 +3,11 @@ use Rattle.std.proofs.Common.{◌≡◌, ℕ, ◌++◌, ◌||◌, refl, sym, ap,
 use Rattle.ecma_kind.specs.declared.kind.Kind.{Kind}
 use Rattle.ecma_kind.specs.declared.kind.Kind.TheVariants as kind
 use Rattle.ecma_kind.specs.declared.operators.VarDeclKind.TheVariants.{Var, Let, Const}
-use Rattle.ecma_runs.specs.State.{Id}
+use Rattle.ecma_runs.specs.State.{Id, default_name}
 use Rattle.ecma_runs.specs.Exports.{Local, local_as, indirect_as}
-use Rattle.ecma_runs.proofs.Exports.{changed_exports, locals-changed, local_as-changed, indirect_as-changed}
+use Rattle.ecma_runs.proofs.Exports.{KeepsDefault, default_if, changed_exports, locals-changed, local_as-changed, indirect_as-changed}
 use Rattle.ecma_runs.specs.Environment.{ids_of, empty, undefined, import_of}
-use Rattle.ecma_runs.specs.Declarations.{all_names, names_of, all_imported, imported_as, imported_of, imported_from, text_of, all_lexicals, lexicals_of, all_vars, vars_of, locals_of, all_parameter_names, parameter_names_of, all_declared, declared_of, shorthands_of, all_cooked, cooked_of, all_plain, is_plain_of, is_computed_of, is_super_of, is_absent_of, is_this_of, all_types, is_type_of, has_body_of, any_constructor, is_constructor_of, has_no_effect, all_exports, exported_from, exports_of}
+use Rattle.ecma_runs.specs.Declarations.{all_names, names_of, name_or_default, default_names_of, all_imported, imported_as, imported_of, imported_from, text_of, all_lexicals, lexicals_of, all_vars, vars_of, locals_of, all_parameter_names, parameter_names_of, all_declared, declared_of, shorthands_of, all_cooked, cooked_of, all_plain, is_plain_of, is_computed_of, is_super_of, is_absent_of, is_this_of, all_types, is_type_of, has_body_of, any_constructor, is_constructor_of, has_no_effect, all_exports, exported_from, exports_of}
 use Rattle.ecma_runs.specs.Sought.{meanings}
 use Rattle.ecma_runs.proofs.Names.{changed_ids, changed_bindings, changed_ids-append, ids_of-changed}
 use Rattle.ecma_runs.proofs.Alike.{Change}
@@ -32,6 +32,15 @@ module _ (c : Change) where
   names_same (kind.TsParamProp accessibility is_override readonly) (pattern' ∷ []) kept = pattern'.2.names
   names_same kind.List ps kept = all_stay c (λ ls ms'. all_names ms' ≡ changed_ids c.names (all_names (meanings ls))) (all_names_same c) ps
   names_same _ ps kept = refl
+
+  named_same : (name : Both c) → KeepsDefault c.names → name_or_default name.1 ≡ changed_ids c.names (name_or_default name.0.meaning)
+  named_same name kept =
+      ap₂ (λ a b. a ++ b) (default_if c.names kept name.0.meaning.is_absent name.1.is_absent name.2.is_absent) name.2.names ∙ sym (changed_ids-append c.names (cond name.0.meaning.is_absent (default_name ∷ []) []) name.0.meaning.names)
+
+  pub default_names_same : (k : Kind) (ps : List (Both c)) → KeptLayer c k (firsts c ps) → default_names_of (renamed_kind c k) (seconds c ps) ≡ changed_ids c.names (default_names_of k (firsts c ps))
+  default_names_same kind.FnExpr (name ∷ function ∷ []) kept = named_same name kept
+  default_names_same kind.ClassExpr (name ∷ class ∷ []) kept = named_same name kept
+  default_names_same _ ps kept = refl
 
   -- imports
 
@@ -75,6 +84,7 @@ module _ (c : Change) where
   lexicals_same (kind.ClassDecl false) (name ∷ class ∷ []) kept = ap (map (empty false)) name.2.names ∙ empties c false name.0.meaning.names
   lexicals_same kind.ExportDecl (declaration ∷ []) kept = declaration.2.lexicals
   lexicals_same kind.ExportDefaultExpr (e ∷ []) kept = rw (kept.0, kept.1) refl
+  lexicals_same kind.ExportDefaultDecl (declaration ∷ []) kept = ap (map (empty false)) declaration.2.default_names ∙ empties c false declaration.0.meaning.default_names
   lexicals_same _ ps kept = refl
 
   -- exports
@@ -90,6 +100,8 @@ module _ (c : Change) where
       ap (λ bindings. map (Local None) (ids_of bindings)) (joined c _ _ declaration.2.vars declaration.2.lexicals)
       ∙ ap (map (Local None)) (ids_of-changed c.names (declaration.0.meaning.vars ++ declaration.0.meaning.lexicals)) ∙ locals-changed c.names None (ids_of (declaration.0.meaning.vars ++ declaration.0.meaning.lexicals))
   exports_same kind.ExportDefaultExpr (e ∷ []) kept source = rw (kept.0, kept.1) refl
+  exports_same kind.ExportDefaultDecl (declaration ∷ []) kept source =
+      ap (map (Local (Some (codes "default")))) declaration.2.default_names ∙ locals-changed c.names (Some (codes "default")) declaration.0.meaning.default_names
   exports_same (kind.NamedExport false) (specifiers ∷ from ∷ attributes ∷ []) kept source = ap specifiers.1.exports (from.2.text kept) ∙ specifiers.2.exports from.0.meaning.text
   exports_same (kind.ExportNamedSpecifier false) (exported ∷ name ∷ []) kept source =
       exported_from_same source (cond name.0.meaning.is_absent exported.0.meaning.text name.0.meaning.text) (cond name.1.is_absent exported.1.text name.1.text)
@@ -197,6 +209,7 @@ module _ (c : Change) where
 
   pub has_body_same : (k : Kind) (ps : List (Both c)) → has_body_of (renamed_kind c k) (seconds c ps) ≡ has_body_of k (firsts c ps)
   has_body_same (kind.Function is_generator is_async) (parameters ∷ body ∷ types ∷ return_type ∷ []) = ap not body.2.is_absent
+  has_body_same kind.FnExpr (name ∷ function ∷ []) = function.2.has_body
   has_body_same _ ps = refl
 
   pub is_type_same : (k : Kind) (ps : List (Both c)) → is_type_of (renamed_kind c k) (seconds c ps) ≡ is_type_of k (firsts c ps)

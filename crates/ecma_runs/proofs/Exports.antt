@@ -1,5 +1,5 @@
 -- What a map of names does to exports, and what it has to keep of them.
-use Rattle.std.proofs.Common.{◌≡◌, ℕ, refl, ap, ◌∙◌, List, [], ◌∷◌, ◌++◌, map, Option, Some, None, Bool, true, false}
+use Rattle.std.proofs.Common.{◌≡◌, ℕ, refl, sym, ap, ◌∙◌, List, [], ◌∷◌, ◌++◌, map, Option, Some, None, Bool, true, false, cond}
 use Rattle.ecma_runs.specs.State.{Id, default_name}
 use Rattle.ecma_runs.specs.Names.{TextsStay}
 use Rattle.ecma_runs.specs.Exports.{Exported, Local, Indirect, Star, local_name, local_as, indirect_as, local_ids, export_names, has_star}
@@ -52,6 +52,11 @@ module _ (names : Naming) where
 
   pub default_ids : KeepsDefault → changed_ids names (default_name ∷ []) ≡ default_name ∷ []
   default_ids kept = rw (kept.0, kept.1) refl
+
+  -- where it is missing
+  pub default_if : KeepsDefault → (b b' : Bool) → b' ≡ b → cond b' (default_name ∷ []) [] ≡ changed_ids names (cond b (default_name ∷ []) [])
+  default_if kept true b' e = rw e (sym (default_ids kept))
+  default_if kept false b' e = rw e refl
 
   -- what has to be kept of exports: variables that are exported stay, told from each other and from those with these names, and what names exports keeps its text
   abbrev pub KeepsEach : List Id → List Exported → Type 0

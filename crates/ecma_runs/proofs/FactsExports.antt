@@ -2,13 +2,16 @@
 use Rattle.std.proofs.Common.{refl, pos, [], ◌∷◌, true, false, codes}
 use Rattle.ecma_number.specs.declared.js_number.JsNumber.TheVariants as js_number
 use Rattle.ecma_kind.specs.declared.kind.Kind.TheVariants as kind
+use Rattle.ecma_kind.specs.declared.operators.BinaryOp.TheVariants as binary
+use Rattle.ecma_kind.specs.declared.operators.MetaPropKind.TheVariants.{NewTarget}
+use Rattle.ecma_kind.specs.declared.operators.MethodKind.TheVariants as method
 use Rattle.ecma_kind.specs.declared.operators.VarDeclKind.TheVariants.{Var, Let, Const}
 use Rattle.ecma_runs.specs.declared.observation.Event.TheVariants.{HostCall}
 use Rattle.ecma_runs.specs.declared.observation.Ending.TheVariants as ending
 use Rattle.ecma_runs.specs.declared.script.Action.TheVariants as action
 use Rattle.ecma_runs.specs.declared.script.Answer.TheVariants.{Return}
 use Rattle.ecma_runs.specs.declared.shown.Shown.TheVariants as shown
-use Rattle.ecma_runs.proofs.Trees.{End, ◌▸◌, tree, absent, list, ident, key, binding, whole, string, call, assign, object, property, statement, declare_pattern, declare, declare_function, constructor', declare_class, meaning_node}
+use Rattle.ecma_runs.proofs.Trees.{End, ◌▸◌, tree, absent, list, ident, key, binding, whole, string, member, call, new', assign, binary, object, property, statement, block, returns, declare_pattern, declare, parameter, declare_function, function_expression, class_method, constructor', class', declare_class, meaning_node}
 use Rattle.ecma_runs.proofs.ExportTrees.{exports_node}
 use Rattle.ecma_runs.proofs.Scripts.{Does, nulls}
 
@@ -58,6 +61,85 @@ exports_a_default_value :
     ▸ End)
     [] (ending.Done (Return (shown.Num (js_number.Whole (pos 1))) ∷ Return (shown.Host 7) ∷ []))
 exports_a_default_value = simp (meaning_node, exports_node) refl
+
+-- h(1); export default function h(a) { f(a); } h = g;
+exports_a_function_as_the_default :
+    Does 9 nulls (action.ReadExport (codes "default") ∷ action.ReadExport (codes "h") ∷ [])
+    (statement (call (ident (codes "h")) (whole 1 ▸ End))
+    ▸ tree kind.ExportDefaultDecl (function_expression (ident (codes "h")) (parameter (binding (codes "a")) ▸ End) (statement (call (ident (codes "f")) (ident (codes "a") ▸ End)) ▸ End) ▸ End)
+    ▸ statement (assign (ident (codes "h")) (ident (codes "g")))
+    ▸ End)
+    (HostCall 7 shown.Undefined (shown.Num (js_number.Whole (pos 1)) ∷ []) ∷ []) (ending.Done (Return (shown.Host 8) ∷ Return shown.Undefined ∷ []))
+exports_a_function_as_the_default = simp (meaning_node, exports_node) refl
+
+-- export default function h() { return h; } let a = h; h = 5; f(a());
+exports_a_function_by_the_variable_of_the_module :
+    Does 9 nulls (action.ReadExport (codes "default") ∷ [])
+    (tree kind.ExportDefaultDecl (function_expression (ident (codes "h")) End (returns (ident (codes "h")) ▸ End) ▸ End)
+    ▸ declare Let (codes "a") (ident (codes "h"))
+    ▸ statement (assign (ident (codes "h")) (whole 5))
+    ▸ statement (call (ident (codes "f")) (call (ident (codes "a")) End ▸ End))
+    ▸ End)
+    (HostCall 7 shown.Undefined (shown.Num (js_number.Whole (pos 5)) ∷ []) ∷ []) (ending.Done (Return (shown.Num (js_number.Whole (pos 5))) ∷ []))
+exports_a_function_by_the_variable_of_the_module = simp (meaning_node, exports_node) refl
+
+-- export default function h() { f(1); } export { h };
+exports_a_function_under_two_names :
+    Does 9 nulls (action.ReadExport (codes "h") ∷ action.ReadExport (codes "default") ∷ action.Call 0 shown.Undefined [] ∷ [])
+    (tree kind.ExportDefaultDecl (function_expression (ident (codes "h")) End (statement (call (ident (codes "f")) (whole 1 ▸ End)) ▸ End) ▸ End)
+    ▸ tree (kind.NamedExport false) (list (tree (kind.ExportNamedSpecifier false) (ident (codes "h") ▸ absent ▸ End) ▸ End) ▸ absent ▸ absent ▸ End)
+    ▸ End)
+    (HostCall 7 shown.Undefined (shown.Num (js_number.Whole (pos 1)) ∷ []) ∷ []) (ending.Done (Return (shown.Handle 0) ∷ Return (shown.Handle 0) ∷ Return shown.Undefined ∷ []))
+exports_a_function_under_two_names = simp (meaning_node, exports_node) refl
+
+-- f(1); export default function (a) { return a; }
+exports_a_function_without_a_name :
+    Does 9 nulls (action.ReadExport (codes "default") ∷ action.Call 0 shown.Undefined (shown.Num (js_number.Whole (pos 2)) ∷ []) ∷ [])
+    (statement (call (ident (codes "f")) (whole 1 ▸ End))
+    ▸ tree kind.ExportDefaultDecl (function_expression absent (parameter (binding (codes "a")) ▸ End) (returns (ident (codes "a")) ▸ End) ▸ End)
+    ▸ End)
+    (HostCall 7 shown.Undefined (shown.Num (js_number.Whole (pos 1)) ∷ []) ∷ []) (ending.Done (Return (shown.Handle 0) ∷ Return (shown.Num (js_number.Whole (pos 2))) ∷ []))
+exports_a_function_without_a_name = simp (meaning_node, exports_node) refl
+
+-- try { A; } catch { f(1); } export default class A { constructor() { f(new.target === A); } } new A(); A = g;
+exports_a_class_as_the_default :
+    Does 9 nulls (action.ReadExport (codes "default") ∷ [])
+    (tree kind.TryStmt (block (statement (ident (codes "A")) ▸ End) ▸ tree kind.CatchClause (absent ▸ block (statement (call (ident (codes "f")) (whole 1 ▸ End)) ▸ End) ▸ End) ▸ absent ▸ End)
+    ▸ tree kind.ExportDefaultDecl (tree kind.ClassExpr (ident (codes "A") ▸ class' absent (constructor' End (statement (call (ident (codes "f")) (binary binary.EqEqEq (tree (kind.MetaPropExpr NewTarget) End) (ident (codes "A")) ▸ End)) ▸ End) ▸ End) ▸ End) ▸ End)
+    ▸ statement (new' (ident (codes "A")) End)
+    ▸ statement (assign (ident (codes "A")) (ident (codes "g")))
+    ▸ End)
+    (HostCall 7 shown.Undefined (shown.Num (js_number.Whole (pos 1)) ∷ []) ∷ HostCall 7 shown.Undefined (shown.Bool true ∷ []) ∷ []) (ending.Done (Return (shown.Host 8) ∷ []))
+exports_a_class_as_the_default = simp (meaning_node, exports_node) refl
+
+-- export default class A { static a() { return A; } } const c = A; A = 1; f(c.a() === c);
+exports_a_class_with_its_inner_name :
+    Does 9 nulls (action.ReadExport (codes "default") ∷ [])
+    (tree kind.ExportDefaultDecl (tree kind.ClassExpr (ident (codes "A") ▸ class' absent (class_method method.Method true (key (codes "a")) End (returns (ident (codes "A")) ▸ End) ▸ End) ▸ End) ▸ End)
+    ▸ declare Const (codes "c") (ident (codes "A"))
+    ▸ statement (assign (ident (codes "A")) (whole 1))
+    ▸ statement (call (ident (codes "f")) (binary binary.EqEqEq (call (member (ident (codes "c")) (codes "a")) End) (ident (codes "c")) ▸ End))
+    ▸ End)
+    (HostCall 7 shown.Undefined (shown.Bool true ∷ []) ∷ []) (ending.Done (Return (shown.Num (js_number.Whole (pos 1))) ∷ []))
+exports_a_class_with_its_inner_name = simp (meaning_node, exports_node) refl
+
+-- export default class { constructor() { f(2); } } f(1);
+exports_a_class_without_a_name :
+    Does 9 nulls (action.ReadExport (codes "default") ∷ action.New 0 [] ∷ [])
+    (tree kind.ExportDefaultDecl (tree kind.ClassExpr (absent ▸ class' absent (constructor' End (statement (call (ident (codes "f")) (whole 2 ▸ End)) ▸ End) ▸ End) ▸ End) ▸ End)
+    ▸ statement (call (ident (codes "f")) (whole 1 ▸ End))
+    ▸ End)
+    (HostCall 7 shown.Undefined (shown.Num (js_number.Whole (pos 1)) ∷ []) ∷ HostCall 7 shown.Undefined (shown.Num (js_number.Whole (pos 2)) ∷ []) ∷ []) (ending.Done (Return (shown.Handle 0) ∷ Return (shown.Handle 1) ∷ []))
+exports_a_class_without_a_name = simp (meaning_node, exports_node) refl
+
+-- export default function h() { return 1; }
+exports_no_overloads_as_the_default :
+    Does 9 nulls (action.ReadExport (codes "default") ∷ action.Call 0 shown.Undefined [] ∷ [])
+    (tree kind.ExportDefaultDecl (tree kind.FnExpr (ident (codes "h") ▸ tree (kind.Function false false) (list End ▸ absent ▸ absent ▸ absent ▸ End) ▸ End) ▸ End)
+    ▸ tree kind.ExportDefaultDecl (function_expression (ident (codes "h")) End (returns (whole 1) ▸ End) ▸ End)
+    ▸ End)
+    [] (ending.Done (Return (shown.Handle 0) ∷ Return (shown.Num (js_number.Whole (pos 1))) ∷ []))
+exports_no_overloads_as_the_default = simp (meaning_node, exports_node) refl
 
 -- import { a as q } from "m"; export { q }; export { a as b, default } from "m"; f(q);
 exports_imports :

@@ -7,7 +7,7 @@ use Rattle.ecma_kind.specs.declared.operators.VarDeclKind.TheVariants.{Let}
 use Rattle.ecma_runs.specs.declared.observation.Event.TheVariants.{HostCall}
 use Rattle.ecma_runs.specs.declared.observation.Ending.TheVariants as ending
 use Rattle.ecma_runs.specs.declared.shown.Shown.TheVariants as shown
-use Rattle.ecma_runs.proofs.Trees.{End, ◌▸◌, tree, absent, list, ident, key, binding, whole, string, super_member, call, new', parens, array, object, property, statement, block, returns, declare_pattern, declare, parameter, declare_function, modifiers, field, class', declare_class, meaning_node}
+use Rattle.ecma_runs.proofs.Trees.{End, ◌▸◌, tree, absent, list, ident, key, binding, whole, string, super_member, call, new', parens, array, object, property, statement, block, returns, declare_pattern, declare, parameter, declare_function, modifiers, field, declare_class, meaning_node}
 use Rattle.ecma_runs.proofs.Scripts.{Does, nulls}
 
 -- f(1); async () => 1;
@@ -190,14 +190,14 @@ returns_of_modules :
     (HostCall 7 shown.Undefined (shown.Num (js_number.Whole (pos 1)) ∷ []) ∷ []) (ending.Outside)
 returns_of_modules = simp meaning_node refl
 
--- f(1); export default class {}
-default_exports_of_classes :
+-- f(1); export default function* () {}
+default_exports_of_generators :
     Does 9 nulls []
     (statement (call (ident (codes "f")) (whole 1 ▸ End))
-    ▸ tree kind.ExportDefaultDecl (tree kind.ClassExpr (absent ▸ class' absent End ▸ End) ▸ End)
+    ▸ tree kind.ExportDefaultDecl (tree kind.FnExpr (absent ▸ tree (kind.Function true false) (list End ▸ block End ▸ absent ▸ absent ▸ End) ▸ End) ▸ End)
     ▸ End)
-    (HostCall 7 shown.Undefined (shown.Num (js_number.Whole (pos 1)) ∷ []) ∷ []) (ending.Outside)
-default_exports_of_classes = simp meaning_node refl
+    [] (ending.Outside)
+default_exports_of_generators = simp meaning_node refl
 
 -- f(1); $import_require.q;
 required_modules :

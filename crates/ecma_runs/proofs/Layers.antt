@@ -140,6 +140,8 @@ module _ (fine : Node → Type 0) (f : Node → Node) (known : Known) (t : Telli
   pub kept_layer : (k : Kind) (ms : List Meaning) → KeptLayer of k ms
   kept_layer (kind.Ident text ctxt optional) ms = (refl, refl)
   kept_layer kind.ExportDefaultExpr ms = (refl, refl)
+  kept_layer kind.FnExpr ms = (refl, refl)
+  kept_layer kind.ClassExpr ms = (refl, refl)
   kept_layer (kind.NamedExport type_only) (specifiers ∷ source ∷ attributes ∷ []) = texts_stay source.shorthands
   kept_layer (kind.ExportNamedSpecifier is_type_only) (exported ∷ name ∷ []) = (texts_stay exported.shorthands, texts_stay name.shorthands)
   kept_layer kind.ExportNamespaceSpecifier (name ∷ []) = texts_stay name.shorthands

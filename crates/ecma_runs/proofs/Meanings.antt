@@ -114,6 +114,8 @@ module _ (c : Change) where
     pub test : {a : List Entered} → EvaluatesAlike a s.sought m.test m'.test
     pub caught : {a : List Entered} (v : Value) → EvaluatesAlike a s.sought (m.caught v) (m'.caught v)
     pub made : {a : List Entered} (sort : Sort) (home : Option ℕ) → EvaluatesAlike a s.sought (m.made sort home) (m'.made sort home)
+    -- in the scope that its name is one of
+    pub default_made : {a : List Entered} → EvaluatesAlike a (m.default_names ++ s.sought) m.default_made m'.default_made
     -- with its inner name in a record of its own
     pub class_made : {a : List Entered} (names outer : List Id) → Unless c.names.plain (Opens c.names names outer (names ++ s.sought)) → EvaluatesAlike a outer (m.class_made names) (m'.class_made (changed_ids c.names names))
     -- where shorthands keep their texts
@@ -123,6 +125,7 @@ module _ (c : Change) where
     pub code : {a : List Entered} → c.uses ≡ true → (arguments : List Value) → EvaluatesAlike a s.code_sought (m.code arguments) (m'.code arguments)
     pub body : {a : List Entered} (names outer : List Id) → Unless c.names.plain (BodyOpens names m s outer) → EvaluatesAlike a outer (m.body names) (m'.body (changed_ids c.names names))
     pub names : m'.names ≡ changed_ids c.names m.names
+    pub default_names : m'.default_names ≡ changed_ids c.names m.default_names
     pub lexicals : m'.lexicals ≡ changed_bindings c.names m.lexicals
     pub vars : m'.vars ≡ changed_bindings c.names m.vars
     pub locals : m'.locals ≡ changed_bindings c.names m.locals
@@ -173,6 +176,7 @@ module _ (c : Change) where
       test = λ w z. same.test w stand;
       caught = λ v w z. same.caught v w stand;
       made = λ sort home w z. same.made sort home w stand;
+      default_made = λ w z. same.default_made w stand;
       class_made = λ names outer opens w z. same.class_made names outer (unless_plain c.names.plain plain (Opens c.names names outer (names ++ s.sought))) w z;
       defined = λ texts class object w z. same.defined texts class object w stand;
       fields = λ keys object w z. same.fields keys object w stand;
@@ -180,6 +184,7 @@ module _ (c : Change) where
       code = λ u arguments w z. same.code u arguments w stand;
       body = λ names outer opens w z. same.body names outer (unless_plain c.names.plain plain (BodyOpens names m s outer)) w z;
       names = same.names;
+      default_names = same.default_names;
       lexicals = same.lexicals;
       vars = same.vars;
       locals = same.locals;

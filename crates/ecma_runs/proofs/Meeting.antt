@@ -249,6 +249,8 @@ module _ (to : Id → Id) (m : Node) (may : MayMeet to m) where
   layer_kept : (k : Kind) (cs : List Node) → passes_by may.stands k ≡ true → AllNodes (Passes may.stands) cs → TextsStay to (at_keys k (map keys cs)) → meets_by to k (map seeker cs) ≡ true → KeptLayer change k (map meaning cs)
   layer_kept (kind.Ident text ctxt optional) cs h p t b = (h, may.this_stays (record { sym = text; ctxt = ctxt }) h)
   layer_kept kind.ExportDefaultExpr cs h p t b = may.default_stays
+  layer_kept kind.FnExpr cs h p t b = may.default_stays
+  layer_kept kind.ClassExpr cs h p t b = may.default_stays
   layer_kept (kind.NamedExport type_only) (specifiers ∷ source ∷ attributes ∷ []) h p t b = listed source t
   layer_kept (kind.ExportNamedSpecifier is_type_only) (exported ∷ name ∷ []) h p t b = (listed exported (stay_first to (keys exported).here (keys name).here t), listed name (stay_rest to (keys exported).here (keys name).here t))
   layer_kept kind.ExportNamespaceSpecifier (name ∷ []) h p t b = listed name t

@@ -54,6 +54,8 @@ module _ (c : Change) where
   KeptLayer (kind.Constructor accessibility is_optional) (key ∷ parameters ∷ body ∷ []) = StillClash parameters body
   KeptLayer kind.TsModuleBlock ms = PassesToo c.passed ms
   KeptLayer kind.ExportDefaultExpr ms = KeepsDefault c.names
+  KeptLayer kind.FnExpr ms = KeepsDefault c.names
+  KeptLayer kind.ClassExpr ms = KeepsDefault c.names
   KeptLayer (kind.NamedExport type_only) (specifiers ∷ source ∷ attributes ∷ []) = KeepTexts c source.shorthands
   KeptLayer (kind.ExportNamedSpecifier is_type_only) (exported ∷ name ∷ []) = KeepTexts c exported.shorthands × KeepTexts c name.shorthands
   KeptLayer kind.ExportNamespaceSpecifier (name ∷ []) = KeepTexts c name.shorthands

@@ -106,6 +106,8 @@ module _ (to : Id → Id) (m : Node) (renaming : IsRenaming to m) where
   layer_kept : (k : Kind) (cs : List Node) → passes_by renaming.stands k ≡ true → AllNodes (Passes renaming.stands) cs → TextsStay to (at_keys k (map keys cs)) → KeptLayer renaming_change k (map meaning cs)
   layer_kept (kind.Ident text ctxt optional) cs h p t = (h, renaming.this_stays (record { sym = text; ctxt = ctxt }) h)
   layer_kept kind.ExportDefaultExpr cs h p t = renaming.default_stays
+  layer_kept kind.FnExpr cs h p t = renaming.default_stays
+  layer_kept kind.ClassExpr cs h p t = renaming.default_stays
   layer_kept (kind.NamedExport type_only) (specifiers ∷ source ∷ attributes ∷ []) h p t = listed source t
   layer_kept (kind.ExportNamedSpecifier is_type_only) (exported ∷ name ∷ []) h p t = (listed exported (stay_first to (keys exported).here (keys name).here t), listed name (stay_rest to (keys exported).here (keys name).here t))
   layer_kept kind.ExportNamespaceSpecifier (name ∷ []) h p t = listed name t

@@ -99,6 +99,16 @@ module _ (names : Naming) where
       either true b h = refl
       either false b h = h
 
+  among_cases : (id : Id) (ids outer : List Id) (b : Bool) → is_among id ids ≡ b → (is_among id ids ≡ false → is_among id outer ≡ true) → is_among id (ids ++ outer) ≡ true
+  among_cases id ids outer true e f = among_left id ids outer e
+  among_cases id ids outer false e f = among_right id ids outer (f e)
+
+  -- where a record with these ids may be made, what is looked up inside stands outside with them
+  pub named_stand : {declared : List Id} {scope : List Entered} (ids outer inner : List Id) → Unless names.plain (Opens ids outer (ids ++ inner)) → Stands declared scope (ids ++ outer) → Stands declared scope inner
+  named_stand {declared} {scope} ids outer inner opens stands = record {
+    free = unless_both names.plain (λ o f id sought. f id (among_cases id ids outer (is_among id ids) refl (λ away. o.left id (among_right id ids inner sought) away))) opens stands.free;
+  }
+
   module _ {declared : List Id} {scope : List Entered} where
     pub fewer : {ids ids' : List Id} → ((id : Id) → is_among id ids' ≡ true → is_among id ids ≡ true) → Stands declared scope ids → Stands declared scope ids'
     fewer h stands = record { free = unless_map names.plain (λ f id sought. f id (h id sought)) stands.free }

@@ -8,7 +8,7 @@ use Rattle.ecma_tree.specs.declared.node.Node.{Node, Node-F, fold-roll-Node, ind
 use Rattle.ecma_runs.specs.State.{Id, default_name, Binding}
 use Rattle.ecma_runs.specs.Environment.{empty, undefined, import_of}
 use Rattle.ecma_runs.specs.Meaning.{Meaning}
-use Rattle.ecma_runs.specs.Declarations.{all_names, names_of, all_imported, imported_as, imported_of, imported_from, all_lexicals, lexicals_of, all_vars, vars_of, locals_of, has_no_effect, all_exports, exported_from, exports_of}
+use Rattle.ecma_runs.specs.Declarations.{all_names, names_of, name_or_default, default_names_of, all_imported, imported_as, imported_of, imported_from, all_lexicals, lexicals_of, all_vars, vars_of, locals_of, has_no_effect, all_exports, exported_from, exports_of}
 use Rattle.ecma_runs.specs.Evaluation.{role_by, no_effect, constant_meaning, meaning_by, meaning}
 use Rattle.ecma_runs.specs.Names.{passes_by, passes_here, ids_pass}
 use Rattle.ecma_runs.proofs.Layer.{meaning-roll}
@@ -73,6 +73,7 @@ module _ (test : Id → Bool) where
 
   pub record Declares (m : Meaning) : Type 0 where
     pub names : NamesPass m.names
+    pub default_names : Default → NamesPass m.default_names
     pub lexicals : Default → BindingsPass m.lexicals
     pub vars : BindingsPass m.vars
     pub locals : Default → BindingsPass m.locals
@@ -116,6 +117,18 @@ module _ (test : Id → Bool) where
   names_pass kind.List ps h = all_names_pass ps
   names_pass _ ps h = tt
 
+  default_if_pass : (b : Bool) → Default → NamesPass (cond b (default_name ∷ []) [])
+  default_if_pass true default = (default, tt)
+  default_if_pass false default = tt
+
+  named_pass : (name : Part) → Default → NamesPass (name_or_default name.0)
+  named_pass name default = names_append (cond name.0.is_absent (default_name ∷ []) []) name.0.names (default_if_pass name.0.is_absent default) name.1.names
+
+  default_names_pass : (k : Kind) (ps : List Part) → Default → NamesPass (default_names_of k (parts ps))
+  default_names_pass kind.FnExpr (name ∷ function ∷ []) default = named_pass name default
+  default_names_pass kind.ClassExpr (name ∷ class ∷ []) default = named_pass name default
+  default_names_pass _ ps default = tt
+
   imported_as_pass : (o : Option (List ℕ)) (source : List ℕ) (ids : List Id) → NamesPass ids → BindingsPass (imported_as o source ids)
   imported_as_pass None source ids p = tt
   imported_as_pass (Some name) source ids p = imports_pass source name ids p
@@ -140,6 +153,7 @@ module _ (test : Id → Bool) where
   lexicals_pass (kind.ClassDecl false) (name ∷ class ∷ []) default = empties_pass false name.0.names name.1.names
   lexicals_pass kind.ExportDecl (declaration ∷ []) default = declaration.1.lexicals default
   lexicals_pass kind.ExportDefaultExpr (e ∷ []) default = (default, tt)
+  lexicals_pass kind.ExportDefaultDecl (declaration ∷ []) default = empties_pass false declaration.0.default_names (declaration.1.default_names default)
   lexicals_pass _ ps default = tt
 
   vars_pass : (k : Kind) (ps : List Part) → BindingsPass (vars_of k (parts ps))
@@ -204,6 +218,7 @@ module _ (test : Id → Bool) where
   exports_pass (kind.Module shebang) (body ∷ []) source default = body.1.exports None default
   exports_pass kind.ExportDecl (declaration ∷ []) source default = bound_pass (declaration.0.vars ++ declaration.0.lexicals) (bindings_append declaration.0.vars declaration.0.lexicals declaration.1.vars (declaration.1.lexicals default))
   exports_pass kind.ExportDefaultExpr (e ∷ []) source default = (default, tt)
+  exports_pass kind.ExportDefaultDecl (declaration ∷ []) source default = locals_named (Some (codes "default")) declaration.0.default_names (declaration.1.default_names default)
   exports_pass (kind.NamedExport false) (specifiers ∷ from ∷ attributes ∷ []) source default = specifiers.1.exports from.0.text default
   exports_pass (kind.ExportNamedSpecifier false) (exported ∷ name ∷ []) source default = exported_from_pass source (cond name.0.is_absent exported.0.text name.0.text) exported
   exports_pass kind.ExportNamespaceSpecifier (name ∷ []) source default = indirect_as_pass name.0.text source (Some (codes "*"))
@@ -211,7 +226,7 @@ module _ (test : Id → Bool) where
   exports_pass _ ps source default = tt
 
   role_declares : (n : Node) (k : Kind) (ps : List Part) → passes_by test k ≡ true → Declares (role_by n k (parts ps))
-  role_declares n k ps h = record { names = names_pass k ps h; lexicals = lexicals_pass k ps; vars = vars_pass k ps; locals = locals_pass k ps; imported = imported_pass k ps; exports = exports_pass k ps }
+  role_declares n k ps h = record { names = names_pass k ps h; default_names = default_names_pass k ps; lexicals = lexicals_pass k ps; vars = vars_pass k ps; locals = locals_pass k ps; imported = imported_pass k ps; exports = exports_pass k ps }
 
   abbrev role_part : Node → (k : Kind) (ps : List Part) → passes_by test k ≡ true → Part
   role_part n k ps h = (role_by n k (parts ps), role_declares n k ps h)
@@ -227,7 +242,7 @@ module _ (test : Id → Bool) where
   either_declares false m m' hm hk = hk
 
   layer_declares : (n : Node) (k : Kind) (ps : List Part) → passes_by test k ≡ true → Declares (meaning_by n k (parts ps))
-  layer_declares n kind.ParenExpr (e ∷ []) h = record { names = e.1.names; lexicals = e.1.lexicals; vars = e.1.vars; locals = e.1.locals; imported = e.1.imported; exports = e.1.exports }
+  layer_declares n kind.ParenExpr (e ∷ []) h = record { names = e.1.names; default_names = e.1.default_names; lexicals = e.1.lexicals; vars = e.1.vars; locals = e.1.locals; imported = e.1.imported; exports = e.1.exports }
   layer_declares n kind.TsAsExpr (e ∷ type ∷ []) h = e.1
   layer_declares n kind.TsTypeAssertion (e ∷ type ∷ []) h = e.1
   layer_declares n kind.TsConstAssertion (e ∷ []) h = e.1

@@ -93,6 +93,11 @@ module _ (c : Change) {a : List Entered} (w : World (at c a)) where
       let z : Standing c (e ∷ w.scope) statements.0.seeks.sought = opened c.names opens s e is in
       bind_alike (beside d e) (statements.2.hoisted (within d w e) z) (λ _. statements.2.completion (within d w e) z)))
 
+  -- the variables of a default export are set
+  default_alike : (declaration : Both c) → Standing c w.scope declaration.0.meaning.default_names → (v : Value)
+      → Alike d (initialize w.scope declaration.0.meaning.default_names v) (initialize (changed_scope c.names w.scope) declaration.1.default_names v)
+  default_alike declaration s v = rw (declaration.2.default_names) (initialize_alike d w.scope w.there declaration.0.meaning.default_names s v)
+
   pub completion_alike : (k : Kind) (ps : List (Both c)) → KeptLayer c k (firsts c ps) → Placed c w.scope k (seekers c ps) → Alike d (completion_of k (firsts c ps) (first d w)) (completion_of (renamed_kind c k) (seconds c ps) (second d w))
   completion_alike kind.Absent ps kept h = give_alike d tt
   completion_alike kind.List ps kept h = all_stay c (λ ls ms'. Standing c w.scope (all_sought ls) → Alike d (all_completions (meanings ls) (first d w)) (all_completions ms' (second d w))) (all_completions_alike c w) ps h.0
@@ -126,6 +131,9 @@ module _ (c : Change) {a : List Entered} (w : World (at c a)) where
       bind_alike d (e.2.initial w (rest c.names (default_name ∷ []) _ h.0)) (λ v.
       subst (λ ids. Alike d (initialize w.scope (default_name ∷ []) v) (initialize (changed_scope c.names w.scope) ids v)) (default_ids c.names kept)
       (initialize_alike d w.scope w.there (default_name ∷ []) (one c.names (default_name ∷ []) e.0.seeks.sought h.0) v))
+  completion_alike kind.ExportDefaultDecl (declaration ∷ []) kept h =
+      rw (declaration.2.has_body) (when_alike d declaration.0.meaning.has_body (give_alike d tt)
+      (bind_alike d (declaration.2.value w (rest c.names declaration.0.meaning.default_names declaration.0.seeks.sought h.0)) (λ v. default_alike declaration (one c.names declaration.0.meaning.default_names declaration.0.seeks.sought h.0) v)))
   completion_alike (kind.NamedExport false) ps kept h = give_alike d tt
   completion_alike (kind.ExportAll false) ps kept h = give_alike d tt
   completion_alike (kind.TsTypeAliasDecl declare) ps kept h = give_alike d tt
@@ -143,6 +151,9 @@ module _ (c : Change) {a : List Entered} (w : World (at c a)) where
   hoisted_alike kind.List ps s = all_stay c (λ ls ms'. Standing c w.scope (all_sought ls) → Alike d (all_hoisted (meanings ls) (first d w)) (all_hoisted ms' (second d w))) (all_hoisted_alike c w) ps s
   hoisted_alike (kind.Module shebang) (body ∷ []) s = body.2.hoisted w (one c.names _ _ s)
   hoisted_alike kind.ExportDecl (declaration ∷ []) s = declaration.2.hoisted w (one c.names _ _ s)
+  hoisted_alike kind.ExportDefaultDecl (declaration ∷ []) s =
+      rw (declaration.2.has_body) (when_alike d declaration.0.meaning.has_body
+      (bind_alike d (declaration.2.default_made w s) (λ f. default_alike declaration (one c.names declaration.0.meaning.default_names declaration.0.seeks.sought s) (Own f))) (give_alike d tt))
   hoisted_alike (kind.FnDecl false) (name ∷ function ∷ []) s = rw (name.2.names) (bind_alike d (function.2.made Plain None w (rest c.names (name.0.meaning.names) _ s)) (λ f. initialize_alike d w.scope w.there name.0.meaning.names (one c.names (name.0.meaning.names) _ s) (Own f)))
   hoisted_alike _ ps s = give_alike d tt
 

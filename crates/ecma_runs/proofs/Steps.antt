@@ -20,10 +20,10 @@ use Rattle.ecma_runs.proofs.Premises.{renamed_kind, KeptLayer, OpensLayer, Outli
 use Rattle.ecma_runs.proofs.Lists.{Item, seekers_before, before, behind, all_arguments_alike, all_elements_alike, all_texts_alike, all_completions_alike, all_varied_alike, all_hoisted_alike, all_matched_alike, all_targets_alike, all_parameters_alike, all_fields_alike, all_statics_alike, all_defined_alike, all_code_alike, all_names_same, all_declared_same, all_parameter_names_same, all_lexicals_same, all_vars_same, all_imported_same, all_exports_same, all_cooked_same, all_plain_same, all_types_same, any_constructor_same}
 use Rattle.ecma_runs.proofs.Expressions.{link_alike, value_alike, reference_alike, chain_alike, test_alike, initial_alike, arguments_alike, elements_alike, texts_alike, key_alike}
 use Rattle.ecma_runs.proofs.Patterns.{assigned_alike, targets_alike, matched_alike, bound_alike, parameters_alike}
-use Rattle.ecma_runs.proofs.Classes.{made_alike, body_alike, code_alike, class_made_alike, defined_alike, fields_alike, statics_alike}
+use Rattle.ecma_runs.proofs.Classes.{made_alike, default_made_alike, body_alike, code_alike, class_made_alike, defined_alike, fields_alike, statics_alike}
 use Rattle.ecma_runs.proofs.Blocks.{completed_alike}
 use Rattle.ecma_runs.proofs.Statements.{varied_alike, hoisted_alike, caught_alike, effect_alike}
-use Rattle.ecma_runs.proofs.Declarations.{names_same, imported_same, text_same, lexicals_same, vars_same, locals_same, parameter_names_same, declared_same, cooked_same, is_plain_same, is_computed_same, is_super_same, is_absent_same, is_this_same, is_type_same, has_body_same, is_constructor_same, has_no_effect_same, exports_same}
+use Rattle.ecma_runs.proofs.Declarations.{names_same, default_names_same, imported_same, text_same, lexicals_same, vars_same, locals_same, parameter_names_same, declared_same, cooked_same, is_plain_same, is_computed_same, is_super_same, is_absent_same, is_this_same, is_type_same, has_body_same, is_constructor_same, has_no_effect_same, exports_same}
 
 module _ (c : Change) where
   role_same : (n : Node) → c.fine n → (k : Kind) (ps : List (Both c)) → KeptLayer c k (firsts c ps) → Unless c.names.plain (OpensLayer c k (seekers c ps)) → Unless c.names.plain (Outlined c n k (seekers c ps))
@@ -50,6 +50,7 @@ module _ (c : Change) where
     test = λ w s. test_alike c w n fine k ps kept ((s, o), l);
     caught = λ v w s. caught_alike c w k ps (s, o) v;
     made = λ sort home w s. made_alike c w n fine k ps ((s, o), l) sort home;
+    default_made = λ w s. default_made_alike c w k ps o s;
     class_made = λ ids outer opens w s. class_made_alike c w n fine k ps kept o l ids outer opens s;
     defined = λ texts class object w s. defined_alike c w n fine k ps kept ((s, o), l) texts class object;
     fields = λ keys object w s. fields_alike c w k ps s keys object;
@@ -57,6 +58,7 @@ module _ (c : Change) where
     code = λ u arguments w s. code_alike c w k ps kept o s u arguments;
     body = λ names outer opens w s. body_alike c w n fine k ps kept (unless_both c.names.plain (λ p q. (p, q)) o l) names outer opens s;
     names = names_same c k ps kept;
+    default_names = default_names_same c k ps kept;
     lexicals = lexicals_same c k ps kept;
     vars = vars_same c k ps;
     locals = locals_same c k ps;
@@ -98,6 +100,7 @@ module _ (c : Change) where
     test = same.test;
     caught = same.caught;
     made = same.made;
+    default_made = same.default_made;
     class_made = same.class_made;
     defined = same.defined;
     fields = same.fields;
@@ -105,6 +108,7 @@ module _ (c : Change) where
     code = same.code;
     body = same.body;
     names = same.names;
+    default_names = same.default_names;
     lexicals = same.lexicals;
     vars = same.vars;
     locals = same.locals;
@@ -203,6 +207,7 @@ module _ (c : Change) where
     test = λ w s. outside_alike (at c _);
     caught = λ v w s. outside_alike (at c _);
     made = λ sort home w s. outside_alike (at c _);
+    default_made = λ w s. outside_alike (at c _);
     class_made = λ ids outer opens w s. outside_alike (at c _);
     defined = λ texts class object w s. all_defined_alike c w items s texts class object;
     fields = λ keys object w s. all_fields_alike c w items s keys object;
@@ -210,6 +215,7 @@ module _ (c : Change) where
     code = λ u arguments w s. all_code_alike c w u items s arguments;
     body = λ names outer opens w s. bind_alike (at c _) {A = Value} (outside_alike (at c _)) (λ v. return_alike (at c _) v);
     names = all_names_same c items;
+    default_names = refl;
     lexicals = all_lexicals_same c items;
     vars = all_vars_same c items;
     locals = refl;

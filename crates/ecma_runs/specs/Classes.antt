@@ -22,6 +22,11 @@ abbrev pub made_of : Node → Kind → List Meaning → Sort → Option ℕ → 
 made_of node (kind.Function false false) children sort home x = make_function node sort home x
 made_of node _ children sort home x = outside
 
+-- a function that is exported as the default: its name is one of the module, so that no record is made for it (16.2.3.7 Exports: Evaluation)
+abbrev pub default_made_of : Kind → List Meaning → Evaluation ℕ
+default_made_of kind.FnExpr (name ∷ function ∷ []) x = function.made Plain None x
+default_made_of _ children x = outside
+
 -- 10.2.1.3 EvaluateBody, in a record of the body's own, in which a `var` or function with a parameter's name is the parameter; the body of an arrow may be an expression
 abbrev pub body_of : Node → Kind → List Meaning → List Id → Evaluation (Unit {0})
 body_of node kind.BlockStmt (statements ∷ []) names x =

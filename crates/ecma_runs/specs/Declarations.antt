@@ -30,6 +30,16 @@ names_of (kind.TsParamProp accessibility is_override readonly) (pattern' ∷ [])
 names_of kind.List items = all_names items
 names_of _ children = []
 
+-- a name, or `*default*` where it is missing
+abbrev pub name_or_default : Meaning → List Id
+name_or_default name = cond name.is_absent (default_name ∷ []) [] ++ name.names
+
+-- the variable of a function or a class that is exported as the default
+abbrev pub default_names_of : Kind → List Meaning → List Id
+default_names_of kind.FnExpr (name ∷ function ∷ []) = name_or_default name
+default_names_of kind.ClassExpr (name ∷ class ∷ []) = name_or_default name
+default_names_of _ children = []
+
 -- variables
 
 abbrev pub all_imported : List Meaning → List ℕ → List Binding
@@ -73,6 +83,7 @@ lexicals_of (kind.FnDecl false) (name ∷ function ∷ []) = map (empty false) n
 lexicals_of (kind.ClassDecl false) (name ∷ class ∷ []) = map (empty false) name.names
 lexicals_of kind.ExportDecl (declaration ∷ []) = declaration.lexicals
 lexicals_of kind.ExportDefaultExpr (e ∷ []) = empty false default_name ∷ []
+lexicals_of kind.ExportDefaultDecl (declaration ∷ []) = map (empty false) declaration.default_names
 lexicals_of _ children = []
 
 abbrev pub all_vars : List Meaning → List Binding
@@ -121,6 +132,7 @@ exports_of kind.List items source = all_exports items source
 exports_of (kind.Module shebang) (body ∷ []) source = body.exports None
 exports_of kind.ExportDecl (declaration ∷ []) source = map (Local None) (ids_of (declaration.vars ++ declaration.lexicals))
 exports_of kind.ExportDefaultExpr (e ∷ []) source = Local (Some (codes "default")) default_name ∷ []
+exports_of kind.ExportDefaultDecl (declaration ∷ []) source = map (Local (Some (codes "default"))) declaration.default_names
 exports_of (kind.NamedExport false) (specifiers ∷ from ∷ attributes ∷ []) source = specifiers.exports from.text
 exports_of (kind.ExportNamedSpecifier false) (exported ∷ name ∷ []) source = exported_from source (cond name.is_absent exported.text name.text) exported
 exports_of kind.ExportNamespaceSpecifier (name ∷ []) source = indirect_as name.text source (Some (codes "*"))
@@ -230,6 +242,7 @@ is_this_of _ children = false
 -- a function that is no overload, and neither abstract nor ambient
 abbrev pub has_body_of : Kind → List Meaning → Bool
 has_body_of (kind.Function is_generator is_async) (parameters ∷ body ∷ types ∷ return_type ∷ []) = not body.is_absent
+has_body_of kind.FnExpr (name ∷ function ∷ []) = function.has_body
 has_body_of _ children = false
 
 abbrev pub all_types : List Meaning → Bool

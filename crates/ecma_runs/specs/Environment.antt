@@ -1,5 +1,5 @@
 -- Environment records and what names refer to (ECMAScript, 9.1 Environment Records).
-use Rattle.std.specs.Prelude.{true, ℕ, List, [], ◌∷◌, ◌++◌, length, Option, Some, None, Bool, false, is_some, ◌||◌, not, if◌then◌else◌, slice_get}
+use Rattle.std.specs.Prelude.{true, ℕ, List, [], ◌∷◌, ◌++◌, length, Option, Some, None, Bool, false, ◌||◌, not, if◌then◌else◌, slice_get}
 use Rattle.std.specs.List.{filter, list_any}
 use Rattle.ecma_runs.specs.declared.script.ImportValue.{ImportValue}
 use Rattle.ecma_runs.specs.Values.{Value, Undefined}

@@ -15,9 +15,9 @@ use Rattle.ecma_runs.specs.Objects.{new_object, closure_at}
 use Rattle.ecma_runs.specs.Functions.{pass_function, prototype_for}
 use Rattle.ecma_runs.specs.Expressions.{value_of, reference_of, initial_of, arguments_of, elements_of, texts_of, key_of, chain_of, link_of, test_of}
 use Rattle.ecma_runs.specs.Patterns.{assigned_of, bound_of, matched_of, targets_of, parameters_of}
-use Rattle.ecma_runs.specs.Classes.{made_of, class_made_of, defined_of, fields_of, statics_of, code_of, body_of, field_activation}
+use Rattle.ecma_runs.specs.Classes.{made_of, default_made_of, class_made_of, defined_of, fields_of, statics_of, code_of, body_of, field_activation}
 use Rattle.ecma_runs.specs.Statements.{completion_of, varied_of, hoisted_of, effect_of, caught_of}
-use Rattle.ecma_runs.specs.Declarations.{names_of, lexicals_of, vars_of, locals_of, parameter_names_of, declared_of, shorthands_of, imported_of, text_of, cooked_of, is_plain_of, is_computed_of, is_super_of, is_absent_of, is_this_of, is_type_of, has_body_of, is_constructor_of, has_no_effect, exports_of}
+use Rattle.ecma_runs.specs.Declarations.{names_of, default_names_of, lexicals_of, vars_of, locals_of, parameter_names_of, declared_of, shorthands_of, imported_of, text_of, cooked_of, is_plain_of, is_computed_of, is_super_of, is_absent_of, is_this_of, is_type_of, has_body_of, is_constructor_of, has_no_effect, exports_of}
 
 -- code runs in a record of its own
 abbrev pub in_record : List Binding → Option Activation → Evaluation (Unit {0}) → (ℕ → Value → Run Value) → ExecutionContext → Run Value
@@ -66,6 +66,7 @@ role_by node k children = record {
   test = test_of node k children;
   caught = caught_of k children;
   made = made_of node k children;
+  default_made = default_made_of k children;
   class_made = class_made_of node k children;
   defined = defined_of node k children;
   fields = fields_of k children;
@@ -73,6 +74,7 @@ role_by node k children = record {
   code = code_of k children;
   body = body_of node k children;
   names = names_of k children;
+  default_names = default_names_of k children;
   lexicals = lexicals_of k children;
   vars = vars_of k children;
   locals = locals_of k children;

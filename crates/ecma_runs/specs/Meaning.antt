@@ -81,6 +81,8 @@ pub record Meaning : Type 0 where
   pub caught : Value → Evaluation (Unit {0})
   -- as a function whose object is made, with its kind and its home (15.2.4 and others)
   pub made : Sort → Option ℕ → Evaluation ℕ
+  -- as a function that is exported as the default: its object is made (16.2.3.7)
+  pub default_made : Evaluation ℕ
   -- as a class that is defined, with the inner name (15.7.14 ClassDefinitionEvaluation)
   pub class_made : List Id → Evaluation Value
   -- as properties or methods that are defined, on the object, or on the class and its prototype; it gives the keys of the fields among them
@@ -94,6 +96,8 @@ pub record Meaning : Type 0 where
   pub body : List Id → Evaluation (Unit {0})
   -- the names that it binds (8.2.1 BoundNames)
   pub names : List Id
+  -- the names of its variable where it is exported as the default
+  pub default_names : List Id
   -- the variables that its scope has of it (8.2.5 LexicallyScopedDeclarations), and the function around (8.2.6 VarDeclaredNames)
   pub lexicals : List Binding
   pub vars : List Binding

@@ -78,6 +78,7 @@ sought_of (kind.ArrowExpr is_async is_generator) children = sought_by_code (kind
 sought_of kind.GetterProp (key ∷ type ∷ body ∷ []) = key.seeks.sought ++ sought_by_code kind.GetterProp (key ∷ type ∷ body ∷ [])
 sought_of kind.SetterProp (key ∷ this_parameter ∷ parameter ∷ body ∷ []) = key.seeks.sought ++ sought_by_code kind.SetterProp (key ∷ this_parameter ∷ parameter ∷ body ∷ [])
 sought_of kind.ExportDefaultExpr (e ∷ []) = default_name ∷ e.seeks.sought
+sought_of kind.ExportDefaultDecl (declaration ∷ []) = declaration.meaning.default_names ++ declaration.seeks.sought
 sought_of (kind.TsImportEqualsDecl is_export false) (name ∷ source ∷ []) = (name.meaning.names ++ name.seeks.sought) ++ source.seeks.sought
 -- names that are looked up in no scope: labels, and those of imports
 sought_of (kind.Constructor accessibility is_optional) children = []

@@ -82,6 +82,8 @@ completion_of (kind.ImportDecl false) children x = give tt
 -- 16.2.3.7 Exports: Evaluation; what is exported is read by the host
 completion_of kind.ExportDecl (declaration ∷ []) x = declaration.completion x
 completion_of kind.ExportDefaultExpr (e ∷ []) x = e.initial x >>= λ v. initialize x.scope (default_name ∷ []) v
+completion_of kind.ExportDefaultDecl (declaration ∷ []) x =
+    when declaration.has_body (give tt) (declaration.value x >>= λ v. initialize x.scope declaration.default_names v)
 completion_of (kind.NamedExport false) children x = give tt
 completion_of (kind.ExportAll false) children x = give tt
 completion_of (kind.TsTypeAliasDecl declare) children x = give tt
@@ -112,6 +114,8 @@ abbrev pub hoisted_of : Kind → List Meaning → Evaluation (Unit {0})
 hoisted_of kind.List items x = all_hoisted items x
 hoisted_of (kind.Module shebang) (body ∷ []) x = body.hoisted x
 hoisted_of kind.ExportDecl (declaration ∷ []) x = declaration.hoisted x
+hoisted_of kind.ExportDefaultDecl (declaration ∷ []) x =
+    when declaration.has_body (declaration.default_made x >>= λ f. initialize x.scope declaration.default_names (Own f)) (give tt)
 hoisted_of (kind.FnDecl false) (name ∷ function ∷ []) x = function.made Plain None x >>= λ f. initialize x.scope name.names (Own f)
 hoisted_of _ children x = give tt
 
