@@ -94,7 +94,7 @@ except-among id names (b ∷ bs) = step (except-among id names bs) (is_among b.i
 -- names of which no other becomes what one does are told
 
 module _ (to : Id → Id) where
-  told-true : (ids : List Id) (id : Id) → ((other : Id) → is_among other ids ≡ true → to other ≡ to id → other ≡ id) → is_told to ids id ≡ true
+  pub told-true : (ids : List Id) (id : Id) → ((other : Id) → is_among other ids ≡ true → to other ≡ to id → other ≡ id) → is_told to ids id ≡ true
   told-true [] id h = refl
   told-true (x ∷ xs) id h =
       and-both (same_id x id || not (same_id (to x) (to id))) (is_told to xs id) (first (same_id (to x) (to id)) refl)

@@ -1,5 +1,5 @@
 -- Texts by which nothing is captured, with one map of contexts that keeps free names apart, are a map under which names may meet.
-use Rattle.std.proofs.Common.{◌≡◌, ◌⊎◌, inl, inr, refl, sym, ap, ◌∙◌, subst, ℕ, List, [], ◌∷◌, map, Option, Some, None, Bool, true, false, bytes_eq, codes, unwrap_or}
+use Rattle.std.proofs.Common.{◌≡◌, ◌⊎◌, inl, inr, refl, sym, ap, ◌∙◌, subst, ℕ, List, [], ◌∷◌, map, ◌&&◌, Option, Some, None, Bool, true, false, bytes_eq, codes, unwrap_or}
 use Rattle.std.specs.List.{All, list_all}
 use Rattle.std.proofs.lemmas.List.Elements.{All-cons, All-head, All-nil, All-tail}
 use Rattle.ecma_kind.specs.declared.kind.Kind.{Kind}
@@ -11,20 +11,21 @@ use Rattle.ecma_hygiene.specs.Renamed.{Texts}
 use Rattle.ecma_hygiene.specs.Sights.{nowhere, own_scope}
 use Rattle.ecma_hygiene.specs.Texts.{text_in}
 use Rattle.ecma_hygiene.proofs.Capturing.{nothing-is-captured}
-use Rattle.ecma_hygiene.proofs.Telling.{and-both, true-false}
-use Rattle.ecma_runs.specs.State.{Id, default_name}
-use Rattle.ecma_runs.specs.Exports.{export_names}
+use Rattle.ecma_hygiene.proofs.Telling.{and-both, or-second, true-false}
+use Rattle.ecma_runs.specs.State.{Id, default_name, same_id}
+use Rattle.ecma_runs.specs.Exports.{Exported, Indirect, Local, Star, export_names, local_ids}
 use Rattle.ecma_runs.specs.Observation.{exports_in}
 use Rattle.ecma_runs.specs.Environment.{ids_of, is_among}
 use Rattle.ecma_runs.specs.Evaluation.{meaning}
-use Rattle.ecma_runs.specs.Meeting.{MayMeet, catches_none, exports_meet, module_meets}
+use Rattle.ecma_runs.specs.Meeting.{MayMeet, catches_none, exports_meet, is_told, module_meets}
 use Rattle.ecma_runs.specs.Names.{TextsStay, ids_pass, keys_in, passes_by, passes_here}
+use Rattle.ecma_runs.proofs.Names.{among_first}
 use Rattle.ecma_runs.specs.Sought.{outside_of, seeker, sought_in}
 use Rattle.ecma_hygiene_meeting.specs.Laws.{FinalTextsMayMeet, WhatIsNotCapturedMayMeet}
 use Rattle.ecma_hygiene_meeting.specs.Places.{places}
 use Rattle.ecma_hygiene_meeting.specs.Records.{IsFormed, IsRecord, RecordsAreScopes, declares_id}
-use Rattle.ecma_hygiene_meeting.specs.Texts.{IsReadByTexts, KeepsFreeApart, TellsNames, sent, written}
-use Rattle.ecma_hygiene_meeting.proofs.Among.{catches-true, outside-both}
+use Rattle.ecma_hygiene_meeting.specs.Texts.{IsReadByTexts, KeepsExports, KeepsFreeApart, TellsItsNames, TellsNames, sent, written}
+use Rattle.ecma_hygiene_meeting.proofs.Among.{among-one, catches-true, outside-both, told-true}
 use Rattle.ecma_hygiene_meeting.proofs.Clear.{Clear, MayBeFree, StaysAt, catches-known, known-out, known-own}
 use Rattle.ecma_hygiene_meeting.proofs.Fine.{Given, IsFine, good, top, top-tells}
 
@@ -53,7 +54,7 @@ stand = ind-Node (λ n. ids_pass any n ≡ true) (λ x y is.
     (subst (λ cs. list_all (λ b. b) (map (ids_pass any) cs) ≡ true) (ap (λ (z : Node-F Node). z.children) is) (all-stand y.children)))
 
 module _ (texts : Texts) (free : ℕ) (onto : ℕ → ℕ) (tree : Node) (records : RecordsAreScopes tree) (read : IsReadByTexts texts free tree) (keeps : KeepsFreeApart onto free)
-    (stays : onto 0 ≡ 0) (exportless : exports_in tree ≡ []) where
+    (stays : onto 0 ≡ 0) (exports : KeepsExports texts tree) where
   abbrev to : Id → Id
   to = sent onto texts
 
@@ -101,14 +102,32 @@ module _ (texts : Texts) (free : ℕ) (onto : ℕ → ℕ) (tree : Node) (record
   away id none true e = absurd (true-false (records.declared id e) none)
   away id none false e = e
 
+  tells : TellsItsNames texts own
+  tells = top-tells texts free onto keeps empty own_free tree nowhere records.whole tt read.not_captured given
+
   in-module : module_meets to (seeker tree) ≡ true
   in-module =
       let looks = top texts free onto keeps empty own_free tree nowhere records.whole tt read.not_captured given in
-      let tells = top-tells texts free onto keeps empty own_free tree nowhere records.whole tt read.not_captured given in
       and-both (catches_none to locals looked_up) (catches_none to (meaning tree).declared (outside_of (meaning tree).declared looked_up))
       (catches-known texts free onto keeps empty own_free (own ∷ []) (tells, tt) locals looked_up (λ id h. known-own texts free [] own id (records.locals id h)) looks)
       (catches-true to (meaning tree).declared (outside_of (meaning tree).declared looked_up) (λ id other i o same.
       let t = outside-both id (meaning tree).declared looked_up i in free-told id other o (known-out texts free [] own id (away id t.1 (declares_id own id) refl) (looks id t.0)) same))
+
+  -- the variables of the module stay two
+  local-one : (a b : Id) → is_among a locals ≡ true → is_among b locals ≡ true → to a ≡ to b → a ≡ b
+  local-one a b la lb same = tells a b (records.locals a la) (records.locals b lb) (ap (λ z. z.sym) same)
+
+  apart : (entries : List Exported) → ((id : Id) → is_among id (local_ids entries) ≡ true → is_among id locals ≡ true) → exports_meet to locals entries ≡ true
+  apart [] h = refl
+  apart (Local name id ∷ entries) h =
+      let others = local_ids entries in
+      let here = h id (among_first id others) in
+      let rest : (x : Id) → is_among x others ≡ true → is_among x locals ≡ true = λ x i. h x (or-second (same_id id x) (is_among x others) i) in
+      and-both (is_told to locals id) (catches_none to (id ∷ []) others && exports_meet to locals entries) (told-true to locals id (λ other o same. local-one other id o here same))
+      (and-both (catches_none to (id ∷ []) others) (exports_meet to locals entries)
+      (catches-true to (id ∷ []) others (λ x other i o same. local-one other x (ap (λ z. is_among z locals) (sym (among-one id other o)) ∙ here) (rest x i) same)) (apart entries rest))
+  apart (Indirect name source imported ∷ entries) h = apart entries h
+  apart (Star ∷ entries) h = apart entries h
 
   pub may-meet : MayMeet to tree
   may-meet = record {
@@ -119,14 +138,14 @@ module _ (texts : Texts) (free : ℕ) (onto : ℕ → ℕ) (tree : Node) (record
     key_texts = keys-stay (keys_in tree) read.names.keys;
     free_texts = λ id s none. stays-by id (texts (id.sym, id.ctxt)) refl (λ h. true-false h none);
     this_stays = λ id s. this-by id (texts (id.sym, id.ctxt)) refl;
-    exports_apart = ap (exports_meet to locals) exportless;
-    export_texts = subst (λ entries. TextsStay to (export_names entries)) (sym exportless) tt;
+    exports_apart = apart (exports_in tree) exports.own;
+    export_texts = keys-stay (export_names (exports_in tree)) exports.stay;
     default_stays = (refl, λ i. record { sym = empty default_name.sym i; ctxt = stays i });
   }
 
 pub what_is_not_captured_may_meet : WhatIsNotCapturedMayMeet
-what_is_not_captured_may_meet texts free to tree records read keeps stays exportless = may-meet texts free to tree records read keeps stays exportless
+what_is_not_captured_may_meet texts free to tree records read keeps stays exports = may-meet texts free to tree records read keeps stays exports
 
 pub final_texts_may_meet : FinalTextsMayMeet
-final_texts_may_meet names free to tree are records told keeps stays exportless =
-    may-meet (text_in names) free to tree records (record { not_captured = nothing-is-captured tree names are; names = told }) keeps stays exportless
+final_texts_may_meet names free to tree are records told keeps stays exports =
+    may-meet (text_in names) free to tree records (record { not_captured = nothing-is-captured tree names are; names = told }) keeps stays exports

@@ -10,9 +10,11 @@ use Rattle.ecma_hygiene.specs.Ids.{Scope, innermost, is_body_block}
 use Rattle.ecma_hygiene.specs.Renamed.{Texts, text_of}
 use Rattle.ecma_hygiene.specs.Sights.{own_scope}
 use Rattle.ecma_runs.specs.State.{Id}
-use Rattle.ecma_runs.specs.Environment.{is_among}
+use Rattle.ecma_runs.specs.Environment.{ids_of, is_among}
+use Rattle.ecma_runs.specs.Exports.{export_names, local_ids}
 use Rattle.ecma_runs.specs.Evaluation.{meaning}
 use Rattle.ecma_runs.specs.Names.{keys_in}
+use Rattle.ecma_runs.specs.Observation.{exports_in}
 use Rattle.ecma_hygiene_meeting.specs.Places.{Place, places}
 use Rattle.ecma_hygiene_meeting.specs.Records.{declares_id}
 
@@ -59,3 +61,8 @@ pub record IsReadByTexts (texts : Texts) (free : ℕ) (tree : Node) : Type 0 whe
 pub record KeepsFreeApart (to : ℕ → ℕ) (free : ℕ) : Type 0 where
   pub empty : (ctxt : ℕ) → to ctxt ≡ to 0 → ctxt ≡ 0
   pub free_names : (ctxt : ℕ) → to ctxt ≡ to free → ctxt ≡ free
+
+-- what a module exports are variables of its own, and those that are exported under their own names keep their texts
+pub record KeepsExports (texts : Texts) (tree : Node) : Type 0 where
+  pub own : (id : Id) → is_among id (local_ids (exports_in tree)) ≡ true → is_among id (ids_of (meaning tree).locals) ≡ true
+  pub stay : All (λ id. written texts id ≡ id.sym) (export_names (exports_in tree))

@@ -7,7 +7,7 @@ ghost use Rattle.ecma_hygiene_meeting.specs.Laws.{FinalTextsMayMeet, WhatIsNotCa
 
 /// In a module in which each scope for which the evaluator makes a record is that record, texts by which nothing is captured, with one map of contexts that
 /// keeps free names apart, are a map under which names may meet: scopes may share contexts, as those of a parameter and of the variable outside do that an
-/// enum is written with.
+/// enum is written with. What the module exports are variables of its own, of which those that are exported under their own names keep their texts.
 pub fn what_is_not_captured_may_meet()
     ensures { WhatIsNotCapturedMayMeet }
 {}

@@ -20,7 +20,7 @@ use Rattle.ecma_runs.proofs.Kept.{AllNodes}
 use Rattle.ecma_runs.proofs.Layer.{meaning_out}
 use Rattle.ecma_hygiene_runs.specs.Plain.{has_no_receiver, is_plain_kind}
 use Rattle.ecma_hygiene_runs.proofs.Seeking.{may_name}
-use Rattle.ecma_hygiene_runs.proofs.Sorted.{shape_out}
+use Rattle.ecma_hygiene_runs.proofs.SortedNames.{shape_out}
 
 -- ids among others
 

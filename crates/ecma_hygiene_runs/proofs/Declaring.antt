@@ -32,8 +32,8 @@ use Rattle.ecma_hygiene_runs.specs.Laws.{BindingsAreDeclared, PlainModulesAreRes
 use Rattle.ecma_hygiene_runs.specs.Plain.{has_no_receiver, is_plain, is_plain_kind, plain_by, plain_step}
 use Rattle.ecma_hygiene_runs.proofs.Covering.{Covered, Sub, cover, declared, layer, layer-covered, names, sub-left, sub-same}
 use Rattle.ecma_hygiene_runs.proofs.Seeking.{any_name, inner-name, may_name, soughts-name}
-use Rattle.ecma_hygiene_runs.proofs.Exports.{exports-none}
-use Rattle.ecma_hygiene_runs.proofs.Sorted.{shape_out, sorted_names_are_outer}
+use Rattle.ecma_hygiene_runs.proofs.Sorted.{sorted_names_are_outer}
+use Rattle.ecma_hygiene_runs.proofs.SortedNames.{shape_out}
 use Rattle.ecma_tree.proofs.Layers.{from_leaves_out}
 
 -- what a layer covers, its node does
@@ -176,11 +176,10 @@ bindings_are_declared tree h p id e =
     (bound-among (cover tree false) id (sights tree) (found tree nowhere false (one sort.Module) (λ f. f) h p) e)
 
 pub plain_modules_are_resolved : PlainModulesAreResolved
-plain_modules_are_resolved tree h p bare o others =
-    let sorted = sorted_names_are_outer tree h bare o in
+plain_modules_are_resolved tree h p o others =
+    let sorted = sorted_names_are_outer tree h o in
     record {
       named = sorted.named;
       keys = sorted.keys;
       bindings = λ id bound. (let other = others id bound in record { inner = other.0; declared = bindings_are_declared tree h p id bound; apart = other.1 });
-      exports = exports-none tree bare;
     }

@@ -8,7 +8,6 @@ use Rattle.ecma_tree.specs.declared.node.Node.TheViews.{out-roll-Node}
 use Rattle.ecma_tree.proofs.Layers.{from_leaves-roll}
 use Rattle.ecma_hygiene.proofs.Telling.{and-left, and-right}
 use Rattle.ecma_runs.specs.Declarations.{all_exports, has_no_effect}
-use Rattle.ecma_runs.specs.Exports.{Exported}
 use Rattle.ecma_runs.specs.Meaning.{Meaning}
 use Rattle.ecma_runs.specs.Evaluation.{role_by, no_effect, meaning_by, meaning}
 use Rattle.ecma_runs.specs.Observation.{exports_in}
@@ -64,6 +63,7 @@ layer-none n kind.ExportDecl cs e all source = absurd (cc)
 layer-none n (kind.NamedExport type_only) cs e all source = absurd (cc)
 layer-none n (kind.ExportNamedSpecifier is_type_only) cs e all source = absurd (cc)
 layer-none n kind.ExportNamespaceSpecifier cs e all source = absurd (cc)
+layer-none n kind.ExportDefaultDecl cs e all source = absurd (cc)
 layer-none n kind.ExportDefaultExpr cs e all source = absurd (cc)
 layer-none n kind.ExportDefaultDecl cs e all source = absurd (cc)
 layer-none n (kind.ExportAll type_only) cs e all source = absurd (cc)

@@ -1,5 +1,5 @@
 -- A resolved tree with its final texts runs as it does with its own.
-use Rattle.std.proofs.Common.{◌≡◌, refl, sym, ap, ap₂, ◌∙◌, ℕ, ◌==◌, List, [], ◌∷◌, map, Option, Some, None, Bool, true, false, ◌||◌, bytes_eq, codes, unwrap_or}
+use Rattle.std.proofs.Common.{◌≡◌, refl, sym, ap, ap₂, ◌∙◌, subst, ℕ, ◌==◌, List, [], ◌∷◌, map, Option, Some, None, Bool, true, false, ◌||◌, bytes_eq, codes, unwrap_or}
 use Rattle.std.specs.List.{All}
 use Rattle.std.proofs.lemmas.Bool.{eqb-true}
 use Rattle.std.proofs.lemmas.List.Elements.{All-cons, All-head, All-nil, All-tail}
@@ -29,30 +29,44 @@ use Rattle.ecma_runs.specs.State.{Id, default_name}
 use Rattle.ecma_runs.specs.Environment.{is_among}
 use Rattle.ecma_runs.specs.Evaluation.{meaning}
 use Rattle.ecma_runs.specs.Observation.{known_of, exports_in, observe}
-use Rattle.ecma_runs.specs.Names.{TextsStay}
+use Rattle.ecma_runs.specs.Exports.{export_names}
+use Rattle.ecma_runs.specs.Names.{TextsStay, renamed}
 use Rattle.ecma_runs.proofs.Kept.{kept}
 use Rattle.ecma_runs.proofs.Standing.{Passes}
-use Rattle.ecma_runs.proofs.Layers.{images, layers_alike, same_exports, same_ids, the_same}
+use Rattle.ecma_runs.proofs.Layers.{KeepsLayers, images, layers_alike, observe_kept, same_exports, same_ids, the_same}
+use Rattle.ecma_hygiene_runs.specs.Exports.{KeepsExportedTexts}
+use Rattle.ecma_hygiene_runs.specs.ExportsApart.{exports_apart}
 use Rattle.ecma_hygiene_runs.specs.FinalTexts.{final_id}
 use Rattle.ecma_hygiene_runs.specs.KeyNames.{key_names_in}
 use Rattle.ecma_hygiene_runs.specs.Laws.{FinalTextsKeepRuns, ReadingAgainKeepsRuns}
 use Rattle.ecma_hygiene_runs.specs.Resolved.{IsResolved, KeepsApart}
 use Rattle.ecma_hygiene_runs.specs.WrittenOut.{written_out}
+use Rattle.ecma_hygiene_runs.proofs.Apart.{apart-passes, apart_layers, renamed-apart}
 use Rattle.ecma_hygiene_runs.proofs.FinalTree.{turned-everywhere}
 use Rattle.ecma_hygiene_runs.proofs.GivenTexts.{IsGiven, given-text}
+use Rattle.ecma_hygiene_runs.proofs.KeysShown.{shown}
 use Rattle.ecma_hygiene_runs.proofs.Passing.{out-passes, seen-passes}
 use Rattle.ecma_hygiene_runs.proofs.Renaming.{Renames, renamed_kept}
 use Rattle.ecma_hygiene_runs.proofs.WritingOut.{written_out_layers, written_out_shorthands_do_not_matter}
 
--- the ids that a tree declares stay, with its shorthands written out
-declared-out : (n : Node) → (meaning (written_out n)).declared ≡ (meaning n).declared
-declared-out n = (kept (images written_out (known_of n) the_same) (layers_alike written_out (known_of n) the_same written_out_layers) n tt).declared ∙ same_ids (meaning n).declared
+-- a map of trees that keeps the meaning of each layer keeps the ids that a tree declares
+
+declared-kept : (f : Node → Node) → KeepsLayers f → (n : Node) → (meaning (f n)).declared ≡ (meaning n).declared
+declared-kept f layers n = (kept (images f (known_of n) the_same) (layers_alike f (known_of n) the_same layers) n tt).declared ∙ same_ids (meaning n).declared
 
 -- and what it exports
-exports-out : (n : Node) → exports_in (written_out n) ≡ exports_in n
-exports-out n = (kept (images written_out (known_of n) the_same) (layers_alike written_out (known_of n) the_same written_out_layers) n tt).exports None ∙ same_exports (exports_in n)
+exports-kept : (f : Node → Node) → KeepsLayers f → (n : Node) → exports_in (f n) ≡ exports_in n
+exports-kept f layers n = (kept (images f (known_of n) the_same) (layers_alike f (known_of n) the_same layers) n tt).exports None ∙ same_exports (exports_in n)
 
-module _ (onto : ℕ → ℕ) (tree : Node) (names : List Named) (are : HygienicTexts tree names) (is : IsResolved tree) (keeps : KeepsApart onto tree) where
+-- so it is with shorthands written out, and what is exported apart
+
+declared-shown : (n : Node) → (meaning (shown n)).declared ≡ (meaning n).declared
+declared-shown n = declared-kept exports_apart apart_layers (written_out n) ∙ declared-kept written_out written_out_layers n
+
+exports-shown : (n : Node) → exports_in (shown n) ≡ exports_in n
+exports-shown n = exports-kept exports_apart apart_layers (written_out n) ∙ exports-kept written_out written_out_layers n
+
+module _ (onto : ℕ → ℕ) (tree : Node) (names : List Named) (are : HygienicTexts tree names) (exported : KeepsExportedTexts (text_of (text_in names)) tree) (is : IsResolved tree) (keeps : KeepsApart onto tree) where
   abbrev texts : Texts
   texts = text_in names
 
@@ -87,8 +101,8 @@ module _ (onto : ℕ → ℕ) (tree : Node) (names : List Named) (are : Hygienic
   all-seen (x ∷ xs) h =
       All-cons Stands x xs (or-second (x.id.1 == 0) (is_seen seen x.id) (All-head (IsAmong seen) x xs h (λ y. same_id y.id x.id) (id-refl x.id))) (all-seen xs (All-tail (IsAmong seen) x xs h))
 
-  all-stand : Passes stands (written_out tree)
-  all-stand = out-passes stands (λ text. refl) tree (seen-passes stands outer tree nowhere is.named (all-seen seen (all-among seen)))
+  all-stand : Passes stands (shown tree)
+  all-stand = apart-passes stands (written_out tree) (out-passes stands (λ text. refl) tree (seen-passes stands outer tree nowhere is.named (all-seen seen (all-among seen))))
 
   -- two names stay two
 
@@ -145,31 +159,39 @@ module _ (onto : ℕ → ℕ) (tree : Node) (names : List Named) (are : Hygienic
   keys-stay [] h = tt
   keys-stay (id ∷ ids) h = (ap (λ c. text_of texts (id.sym, c)) (All-head (λ id. id.ctxt ≡ 0) id ids h) ∙ empty id.sym, keys-stay ids (All-tail (λ id. id.ctxt ≡ 0) id ids h))
 
-  free-by : (id : Id) → is_among id (meaning (written_out tree)).declared ≡ false → (o : Option (List ℕ)) → texts (id.sym, id.ctxt) ≡ o → unwrap_or o id.sym ≡ id.sym
+  exported-stay : (ids : List Id) → All (λ id. text_of texts (id.sym, id.ctxt) ≡ id.sym) ids → TextsStay to ids
+  exported-stay [] h = tt
+  exported-stay (id ∷ ids) h =
+      (All-head (λ (id : Id). text_of texts (id.sym, id.ctxt) ≡ id.sym) id ids h, exported-stay ids (All-tail (λ (id : Id). text_of texts (id.sym, id.ctxt) ≡ id.sym) id ids h))
+
+  free-by : (id : Id) → is_among id (meaning (shown tree)).declared ≡ false → (o : Option (List ℕ)) → texts (id.sym, id.ctxt) ≡ o → unwrap_or o id.sym ≡ id.sym
   free-by id free None e = refl
-  free-by id free (Some t) e = absurd (true-false ((is.bindings (id.sym, id.ctxt) (given (id.sym, id.ctxt) t e).bound).declared) (ap (is_among id) (sym (declared-out tree)) ∙ free))
+  free-by id free (Some t) e = absurd (true-false ((is.bindings (id.sym, id.ctxt) (given (id.sym, id.ctxt) t e).bound).declared) (ap (is_among id) (sym (declared-shown tree)) ∙ free))
 
   this-by : (id : Id) (o : Option (List ℕ)) → texts (id.sym, id.ctxt) ≡ o → bytes_eq (unwrap_or o id.sym) (codes "this") ≡ bytes_eq id.sym (codes "this")
   this-by id None e = refl
   this-by id (Some t) e = let g = given (id.sym, id.ctxt) t e in g.apart ∙ sym (is.bindings (id.sym, id.ctxt) g.bound).apart
 
-  renames : Renames to (written_out tree)
+  renames : Renames to (shown tree)
   renames = record {
     stands = stands;
     all_stand = all-stand;
     one_to_one = λ a b sa sb e. one-by a b sa sb e (same_id (a.sym, a.ctxt) (b.sym, b.ctxt)) refl;
-    key_texts = keys-stay (key_names_in (written_out tree)) is.keys;
+    key_texts = keys-stay (key_names_in (shown tree)) is.keys;
     free_texts = λ id s free. free-by id free (texts (id.sym, id.ctxt)) refl;
     this_stays = λ id s. this-by id (texts (id.sym, id.ctxt)) refl;
     default_stays = (outer default_name.sym 0 refl, λ i. record { sym = empty default_name.sym i; ctxt = keeps.none i });
-    exports = exports-out tree ∙ is.exports;
+    export_texts = subst (λ entries. TextsStay to (export_names entries)) (sym (exports-shown tree)) (exported-stay (export_names (exports_in tree)) exported);
   }
 
   pub final_runs : (turns : ℕ) (options : Config) (script : Script) → observe turns options (with_contexts (λ text ctxt. onto ctxt) (hygiene.renamed texts tree)) script ≡ observe turns options tree script
   final_runs turns options script =
       sym (written_out_shorthands_do_not_matter turns options (with_contexts (λ text ctxt. onto ctxt) (hygiene.renamed texts tree)) script)
       ∙ ap (λ n. observe turns options n script) (turned-everywhere onto texts keeps.none empty tree role.Root spot.Elsewhere is.named)
-      ∙ renamed_kept to (written_out tree) renames turns options script
+      ∙ sym (observe_kept exports_apart apart_layers turns options (renamed to (written_out tree)) script)
+      ∙ ap (λ n. observe turns options n script) (sym (renamed-apart to (written_out tree)))
+      ∙ renamed_kept to (shown tree) renames turns options script
+      ∙ observe_kept exports_apart apart_layers turns options (written_out tree) script
       ∙ written_out_shorthands_do_not_matter turns options tree script
 
 -- the tree with its own contexts
@@ -191,9 +213,9 @@ same-apart : (tree : Node) → KeepsApart (λ ctxt. ctxt) tree
 same-apart tree = record { none = refl; inner = λ text ctxt s e. e; apart = λ text c d s t e. e }
 
 pub final_texts_keep_runs : FinalTextsKeepRuns
-final_texts_keep_runs turns options tree names script are is =
-    ap (λ n. observe turns options n script) (sym (own-contexts (hygiene.renamed (text_in names) tree))) ∙ final_runs (λ ctxt. ctxt) tree names are is (same-apart tree) turns options script
+final_texts_keep_runs turns options tree names script are exported is =
+    ap (λ n. observe turns options n script) (sym (own-contexts (hygiene.renamed (text_in names) tree))) ∙ final_runs (λ ctxt. ctxt) tree names are exported is (same-apart tree) turns options script
 
 pub reading_again_keeps_runs : ReadingAgainKeepsRuns
-reading_again_keeps_runs turns options unresolved top left to tree names script are right is keeps =
-    ap (λ n. observe turns options n script) (is-read-again unresolved top left to tree names are keeps.none right) ∙ final_runs to tree names are is keeps turns options script
+reading_again_keeps_runs turns options unresolved top left to tree names script are exported right is keeps =
+    ap (λ n. observe turns options n script) (is-read-again unresolved top left to tree names are keeps.none right) ∙ final_runs to tree names are exported is keeps turns options script

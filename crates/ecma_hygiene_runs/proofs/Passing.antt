@@ -34,7 +34,7 @@ module _ (test : Id → Bool) where
   pub pass-of : (span : Span) (k : Kind) (cs : List Node) → passes_by test k ≡ true → AllNodes (Passes test) cs → Passes test (node_of span k cs)
   pass-of span k cs h all = fold-roll-Node Bool (passes_here test) (parts_of span k cs) ∙ and-both (passes_by test k) (list_all (λ b. b) (map (ids_pass test) cs)) h (all-true cs all)
 
-  parts-pass : (n : Node) → Passes test n → (passes_by test (out-Node n).kind ≡ true) × AllNodes (Passes test) (out-Node n).children
+  pub parts-pass : (n : Node) → Passes test n → (passes_by test (out-Node n).kind ≡ true) × AllNodes (Passes test) (out-Node n).children
   parts-pass n h = passes_parts test (out-Node n) (ap (ids_pass test) (roll-out-Node n) ∙ h)
 
   module _ (outer : (text : List ℕ) → test (record { sym = text; ctxt = 0 }) ≡ true) where

@@ -13,7 +13,8 @@ use Rattle.ecma_runs.specs.Meaning.{Meaning}
 use Rattle.ecma_runs.specs.Declarations.{all_shorthands, has_no_effect, imported_as}
 use Rattle.ecma_runs.specs.Evaluation.{role_by, no_effect, meaning_by, meaning}
 use Rattle.ecma_runs.specs.Observation.{observe, known_of, exports_in}
-use Rattle.ecma_runs.proofs.Exports.{KeepsEach}
+use Rattle.ecma_runs.specs.Exports.{export_names}
+use Rattle.ecma_runs.proofs.Exports.{keeps_plain}
 use Rattle.ecma_runs.specs.Names.{renamed_ident, renamed_node, renamed, passes_by, ids_pass, Keys, all_here, all_below, here_by, TextsStay}
 use Rattle.ecma_runs.proofs.Layer.{meaning-roll, meaning_out}
 use Rattle.ecma_runs.proofs.Names.{Naming, changed_ids, changed_bindings, is_among-changed}
@@ -71,12 +72,12 @@ here_is = ind-Node Listed (λ x y is.
 
 -- a name is there
 
-there_by : (n : Node) (k : Kind) (ms : List Meaning) → is_name_by k ≡ true → (meaning_by n k ms).is_absent ≡ false
+pub there_by : (n : Node) (k : Kind) (ms : List Meaning) → is_name_by k ≡ true → (meaning_by n k ms).is_absent ≡ false
 there_by n (kind.Ident text ctxt optional) ms e = refl
 there_by n (kind.Str text raw) ms e = refl
 there_by n _ ms e = absurd (cc)
 
-name_kind : (n : Node) → (key_names n).is_name ≡ is_name_by (out-Node n).kind
+pub name_kind : (n : Node) → (key_names n).is_name ≡ is_name_by (out-Node n).kind
 name_kind n = ap (λ m. (key_names m).is_name) (sym (roll-out-Node n)) ∙ ap (λ z. z.is_name) (fold-roll-Node KeyNames key_names_by (out-Node n))
 
 is_there : (n : Node) → (key_names n).is_name ≡ true → (meaning n).is_absent ≡ false
@@ -166,7 +167,7 @@ all_kept c plain [] fine = tt
 all_kept c plain (n ∷ ns) fine = (any_seeking c plain (n.1 fine.0), all_kept c plain ns fine.1)
 
 -- a map of names that is one to one on a set of names in which each identifier of the tree stands; it keeps the texts of keys and of names that the
--- tree declares nowhere, and which names are `this`; the tree exports nothing
+-- tree declares nowhere, and which names are `this`; what is exported under its own name keeps its text, and the variable of a default export its name
 pub record Renames (to : Id → Id) (m : Node) : Type 0 where
   pub stands : Id → Bool
   pub all_stand : ids_pass stands m ≡ true
@@ -175,7 +176,7 @@ pub record Renames (to : Id → Id) (m : Node) : Type 0 where
   pub free_texts : (id : Id) → stands id ≡ true → is_among id (meaning m).declared ≡ false → (to id).sym ≡ id.sym
   pub this_stays : (id : Id) → stands id ≡ true → bytes_eq (to id).sym (codes "this") ≡ bytes_eq id.sym (codes "this")
   pub default_stays : (stands default_name ≡ true) × (to default_name ≡ default_name)
-  pub exports : exports_in m ≡ []
+  pub export_texts : TextsStay to (export_names (exports_in m))
 
 module _ (to : Id → Id) (m : Node) (renaming : Renames to m) where
   abbrev new_names : Naming
@@ -288,4 +289,5 @@ module _ (to : Id → Id) (m : Node) (renaming : Renames to m) where
   renamed_kept turns options script =
       ap (λ n. observe n options (renamed to m) script) (sym (add-zero turns))
       ∙ observe_unless change refl renaming_steps refl refl turns options m script (renaming.all_stand, renaming.key_texts) refl
-      (tt, record { free = tt }, tt, record { each = subst (KeepsEach new_names (ids_of (meaning m).locals)) (sym renaming.exports) tt }) tt tt (none_excused _)
+      (tt, record { free = tt }, tt, keeps_plain new_names refl (ids_of (meaning m).locals) (exports_in m) ((declares renaming.stands m renaming.all_stand).exports None renaming.default_stays.0) renaming.export_texts)
+      tt tt (none_excused _)

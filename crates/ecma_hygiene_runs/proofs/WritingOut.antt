@@ -223,7 +223,7 @@ export_means n name other text ctxt optional (c ∷ cs) ms place false =
 abbrev name_means : (place : Span) (text : List ℕ) → meaning (name_node place text) ≡ meaning_by (name_node place text) (kind.Ident text 0 false) []
 name_means place text = meaning-roll (record { span = place; kind = kind.Ident text 0 false; children = [] })
 
-missing_means : (other : Node) → kind_is_absent other ≡ true → meaning other ≡ meaning_by other kind.Absent (map meaning (out-Node other).children)
+pub missing_means : (other : Node) → kind_is_absent other ≡ true → meaning other ≡ meaning_by other kind.Absent (map meaning (out-Node other).children)
 missing_means other e = meaning_out other ∙ ap (λ k. meaning_by other k (map meaning (out-Node other).children)) (absent_kind (out-Node other).kind e)
 
 module _ (n name other : Node) (is_type_only : Bool) where

@@ -1,6 +1,7 @@
 pub mod WrittenOut
 pub mod FinalTexts
 pub mod KeyNames
+pub mod ExportsApart
 pub mod Plain
 pub mod Exports
 pub mod OuterNames

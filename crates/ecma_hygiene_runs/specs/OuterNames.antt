@@ -6,6 +6,7 @@ use Rattle.ecma_scope.specs.declared.role.Role.{Role}
 use Rattle.ecma_scope.specs.declared.role.Role.TheVariants as role
 use Rattle.ecma_scope.specs.Resolved.{is_name}
 use Rattle.ecma_scope.specs.Scopes.{role_in}
+use Rattle.ecma_hygiene_runs.specs.ExportsApart.{exports_apart}
 use Rattle.ecma_hygiene_runs.specs.FinalTexts.{all_named, is_named, is_outer}
 use Rattle.ecma_hygiene_runs.specs.KeyNames.{key_names_in}
 use Rattle.ecma_hygiene_runs.specs.WrittenOut.{written_out}
@@ -21,7 +22,7 @@ has_outer_names_at = from_leaves (Role → Bool) outer_step
 abbrev pub has_outer_names : Node → Bool
 has_outer_names tree = has_outer_names_at tree role.Root
 
--- a module has names in its patterns, and its keys beside shorthands have the empty context
+-- a module has names in its patterns, and its keys beside shorthands and beside variables that it exports have the empty context
 pub record NamesAreOuter (tree : Node) : Type 0 where
   pub named : is_named tree ≡ true
-  pub keys : All (λ id. id.ctxt ≡ 0) (key_names_in (written_out tree))
+  pub keys : All (λ id. id.ctxt ≡ 0) (key_names_in (exports_apart (written_out tree)))

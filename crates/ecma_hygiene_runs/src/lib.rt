@@ -17,7 +17,8 @@ pub fn shorthands_do_not_matter()
     ensures { ShorthandsDoNotMatter }
 {}
 
-/// A resolved module, which exports nothing, with its final texts, and with its contexts, is observed to do what it does with its own.
+/// A resolved module with its final texts, and with its contexts, is observed to do what it does with its own, where declarations that it exports keep
+/// their texts.
 pub fn final_texts_keep_runs()
     ensures { FinalTextsKeepRuns }
 {}
@@ -27,8 +28,8 @@ pub fn reading_again_keeps_runs()
     ensures { ReadingAgainKeepsRuns }
 {}
 
-/// In a tree with the sort of a module and without exports in which what is no name of a variable has the empty context, shorthand patterns have names,
-/// and with the shorthands written out the keys that are names have the empty context.
+/// In a tree with the sort of a module in which what is no name of a variable has the empty context, shorthand patterns have names, and with the
+/// shorthands written out, and apart from the variables that it exports, the keys that are names have the empty context.
 pub fn sorted_names_are_outer()
     ensures { SortedNamesAreOuter }
 {}
@@ -38,7 +39,7 @@ pub fn bindings_are_declared()
     ensures { BindingsAreDeclared }
 {}
 
-/// So such a module, with its sort and without exports, is resolved in the sense of the laws above where its contexts tell variables from other names.
+/// So such a module, with its sort, is resolved in the sense of the laws above where its contexts tell variables from other names.
 pub fn plain_modules_are_resolved()
     ensures { PlainModulesAreResolved }
 {}

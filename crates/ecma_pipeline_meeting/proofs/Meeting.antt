@@ -18,8 +18,7 @@ use Rattle.ecma_hygiene_fits.specs.Unreserved.{IsUnreserved}
 use Rattle.ecma_hygiene_runs.specs.Laws.{BindingsAreDeclared}
 use Rattle.ecma_hygiene_runs.specs.Plain.{is_plain}
 use Rattle.ecma_fits.specs.Fitting.{Fits}
-use Rattle.ecma_runs.specs.State.{Id, default_name}
-use Rattle.ecma_runs.specs.Exports.{Exported, local_ids}
+use Rattle.ecma_runs.specs.State.{Id}
 use Rattle.ecma_runs.specs.Environment.{is_among}
 use Rattle.ecma_runs.specs.Evaluation.{meaning}
 use Rattle.ecma_runs.specs.Names.{keys_in}
@@ -165,6 +164,6 @@ module _ (names : List Named) (free : ℕ) (tree : Node) (are : HygienicTexts tr
   }
 
 pub plain_final_texts_may_meet : BindingsAreDeclared → HygienicTextsAreUnreserved → FinalTextsMayMeet → PlainFinalTextsMayMeet
-plain_final_texts_may_meet declared unreserved meet names free to tree are fits plain says keeps stays exportless =
-    let records = plain_modules_have_records_of_scopes declared tree fits plain (ap (λ (entries : List Exported). is_among default_name (local_ids entries)) exportless) in
-    meet names free to tree are records (names-told names free tree are declared unreserved fits plain says) keeps stays exportless
+plain_final_texts_may_meet declared unreserved meet names free to tree are fits plain says keeps stays others exports =
+    let records = plain_modules_have_records_of_scopes declared tree fits plain others in
+    meet names free to tree are records (names-told names free tree are declared unreserved fits plain says) keeps stays exports

@@ -27,7 +27,8 @@ pub fn final_texts_tell_names_from_parameters()
     ensures { FinalTextsTellNamesFromParameters }
 {}
 
-/// So names may meet under the final texts of such a module that exports nothing, where its ids say which scopes declare its names, with a map of contexts that keeps the empty one.
+/// So names may meet under the final texts of such a module, where its ids say which scopes declare its names, with a map of contexts that keeps the empty one. What it exports are variables of
+/// its own, of which those that are exported under their own names keep their texts.
 pub fn plain_final_texts_may_meet()
     ensures { PlainFinalTextsMayMeet }
 {

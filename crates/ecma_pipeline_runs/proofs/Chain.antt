@@ -19,13 +19,13 @@ use Rattle.ecma_strip_fits.specs.Laws.{StrippingKeepsSorts}
 use Rattle.ecma_strip_runs.specs.Laws.{StrippingKeepsRuns, OnlyTypesGo}
 use Rattle.ecma_hygiene.specs.declared.naming.Named.{Named}
 use Rattle.ecma_hygiene.specs.Ids.{Id}
-use Rattle.ecma_hygiene.specs.Renamed.{at_root, renamed}
+use Rattle.ecma_hygiene.specs.Renamed.{at_root, renamed, text_of}
 use Rattle.ecma_hygiene.specs.Sights.{nowhere, sights}
 use Rattle.ecma_hygiene.specs.Texts.{HygienicTexts, is_bound, text_in}
 use Rattle.ecma_hygiene_scopes.specs.Laws.{ContextsAreMapped}
 use Rattle.ecma_hygiene_scopes.specs.Apart.{IsMap, TellsScopesApart}
 use Rattle.ecma_hygiene_scopes.specs.Stops.{IsRight, stops}
-use Rattle.ecma_hygiene_runs.specs.Exports.{exports_nothing}
+use Rattle.ecma_hygiene_runs.specs.Exports.{KeepsExportedTexts}
 use Rattle.ecma_hygiene_runs.specs.Resolved.{IsResolved, KeepsApart}
 use Rattle.ecma_hygiene_runs.specs.Laws.{ReadingAgainKeepsRuns, PlainModulesAreResolved}
 use Rattle.ecma_pipeline_runs.specs.Laws.{PassesKeepRuns, StrippedModulesArePlain}
@@ -74,7 +74,7 @@ above n = omega arith
 two-apart : (n : ℕ) → n + 2 ≡ n + 1 → ⊥
 two-apart n h = omega arith
 
-module _ (laws : Laws) (assignments : Bool) (free : ℕ) (r : Node) (is : IsReady assignments free r) (own : HasOwnContexts r) (bare : exports_nothing (stripped r) ≡ true) where
+module _ (laws : Laws) (assignments : Bool) (free : ℕ) (r : Node) (is : IsReady assignments free r) (own : HasOwnContexts r) where
   abbrev s : Node
   s = stripped r
 
@@ -122,7 +122,7 @@ module _ (laws : Laws) (assignments : Bool) (free : ℕ) (r : Node) (is : IsRead
 
       resolved-there : IsResolved s
       resolved-there =
-          laws.resolves s sorted (laws.plain r is.fits is.types) bare (outer s nowhere left (λ k d lt. ((apart left).scoped k d lt).names)) (λ id bound. (inner id bound, bound-other s id (modules-are-full r is.fits is.types) bound))
+          laws.resolves s sorted (laws.plain r is.fits is.types) (outer s nowhere left (λ k d lt. ((apart left).scoped k d lt).names)) (λ id bound. (inner id bound, bound-other s id (modules-are-full r is.fits is.types) bound))
 
       keeps : KeepsApart map-of.0 s
       keeps = record {
@@ -131,9 +131,9 @@ module _ (laws : Laws) (assignments : Bool) (free : ℕ) (r : Node) (is : IsRead
         apart = λ text c d seen other e. map-of.1.one_to_one c d e;
       }
 
-      module _ (turns : ℕ) (options : Config) (script : Script) where
+      module _ (exported : KeepsExportedTexts (text_of (text_in names)) s) (turns : ℕ) (options : Config) (script : Script) where
         bare-runs : observe turns options (resolved unresolved top left uncontexted) script ≡ observe turns options r script
-        bare-runs = laws.again turns options unresolved top left map-of.0 s names script texts map-of.1.right resolved-there keeps ∙ strip-runs turns options script
+        bare-runs = laws.again turns options unresolved top left map-of.0 s names script texts exported map-of.1.right resolved-there keeps ∙ strip-runs turns options script
 
         explicit-runs : observe turns options (resolved unresolved top left (explicit uncontexted)) script ≡ observe turns options r script
         explicit-runs =
@@ -147,5 +147,5 @@ module _ (laws : Laws) (assignments : Bool) (free : ℕ) (r : Node) (is : IsRead
             ∙ laws.places turns options (resolved unresolved top left (explicit uncontexted)) script ∙ explicit-runs
 
 pub keep-runs : Laws → PassesKeepRuns
-keep-runs laws assignments free tree final written is own bare hygienic reading unresolved top left given turns options script =
-    written-runs laws assignments free tree is own bare hygienic.names hygienic.texts written (subst (λ n. IsReading n written) hygienic.is reading) unresolved top left given turns options script
+keep-runs laws assignments free tree final written is own hygienic exported reading unresolved top left given turns options script =
+    written-runs laws assignments free tree is own hygienic.names hygienic.texts written (subst (λ n. IsReading n written) hygienic.is reading) unresolved top left given exported turns options script

@@ -7,13 +7,15 @@ use Rattle.ecma_scope.specs.declared.role.Role.TheVariants as role
 use Rattle.ecma_strip_scopes.specs.Apart.{IsClearSeat}
 use Rattle.ecma_strip_scopes.specs.Staying.{staying_seats}
 use Rattle.ecma_strip.specs.Stripping.{stripped}
-use Rattle.ecma_hygiene_runs.specs.Exports.{exports_nothing}
+use Rattle.ecma_hygiene_runs.specs.Exports.{KeepsExportedTexts}
 use Rattle.ecma_hygiene_runs.specs.Plain.{is_plain}
 use Rattle.ecma_config.specs.declared.config.Config.{Config}
 use Rattle.ecma_runs.specs.declared.script.Script.{Script}
 use Rattle.ecma_runs.specs.Observation.{observe}
 use Rattle.ecma_scope.specs.Resolved.{resolved, AreGiven}
 use Rattle.ecma_hygiene.specs.Hygienic.{IsHygienic}
+use Rattle.ecma_hygiene.specs.Renamed.{text_of}
+use Rattle.ecma_hygiene.specs.Texts.{text_in}
 use Rattle.ecma_sources.specs.TypesAlone.{adds_types_alone}
 use Rattle.ecma_sources.specs.Sources.{IsReading}
 use Rattle.ecma_ready.specs.Ready.{HasOwnContexts, IsReady}
@@ -26,10 +28,11 @@ ModulesAreClear = (tree : Node) → Fits tree → adds_types_alone tree ≡ true
 abbrev pub StrippedModulesArePlain : Type 0
 StrippedModulesArePlain = (tree : Node) → Fits tree → adds_types_alone tree ≡ true → is_plain (stripped tree) ≡ true
 
--- what is observed of the written module, resolved with whatever contexts, is what is observed of a tree that is ready and exports nothing
+-- what is observed of the written module, resolved with whatever contexts, is what is observed of a tree that is ready, where declarations that are exported keep
+-- their texts
 abbrev pub PassesKeepRuns : Type 0
 PassesKeepRuns =
-    (assignments : Bool) (free : ℕ) (tree final written : Node) → IsReady assignments free tree → HasOwnContexts tree → exports_nothing (stripped tree) ≡ true → IsHygienic (stripped tree) final
-    → IsReading final written
+    (assignments : Bool) (free : ℕ) (tree final written : Node) → IsReady assignments free tree → HasOwnContexts tree → (is : IsHygienic (stripped tree) final)
+    → KeepsExportedTexts (text_of (text_in is.names)) (stripped tree) → IsReading final written
     → (unresolved top left : ℕ) → AreGiven unresolved top left written
     → (turns : ℕ) (options : Config) (script : Script) → observe turns options (resolved unresolved top left written) script ≡ observe turns options tree script

@@ -18,8 +18,8 @@ pub fn stripped_modules_are_plain()
     ensures { StrippedModulesArePlain }
 {}
 
-/// A tree that is ready, of which no export is left without its types, and whose scopes have contexts of their own, is observed to do what it does once it is
-/// stripped of its types, given its final texts, read again from its layout and resolved: where there were contexts enough for what is read.
+/// A tree that is ready, and whose scopes have contexts of their own, is observed to do what it does once it is stripped of its types, given its final texts, read
+/// again from its layout and resolved: where declarations that are exported keep their texts, and there were contexts enough for what is read.
 pub fn passes_keep_runs()
     ensures { PassesKeepRuns }
 {
