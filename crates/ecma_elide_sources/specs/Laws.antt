@@ -4,6 +4,7 @@ use Rattle.ecma_kind.specs.declared.shapes.Sort.TheVariants as sort
 use Rattle.ecma_tree.specs.declared.node.Node.{Node}
 use Rattle.ecma_tree.specs.Sorted.{HasSort}
 use Rattle.ecma_config.specs.declared.config.Config.{Config}
+use Rattle.ecma_fits.specs.Fitting.{Fits}
 use Rattle.ecma_forms.specs.Forms.{first_unlowered}
 use Rattle.ecma_hygiene_fits.specs.Placed.{NoneMade}
 use Rattle.ecma_hygiene_fits.specs.Spelled.{NoneLong}
@@ -28,7 +29,8 @@ ElidingKeepsNamesShort = (config : Config) (unresolved top left : ℕ) (source :
 abbrev pub ElidingMakesNoNames : Type 0
 ElidingMakesNoNames = (config : Config) (unresolved top left : ℕ) (source : Node) → HasSort sort.Module source → NoneMade source → NoneMade (elided_source config unresolved top left source)
 
--- what goes opens no scope
+-- what goes of a module that fits opens no scope: the attributes of an import are keys and texts
+--   import type { A } from "m" with { b: "c" };
 abbrev pub ElidedSourcesTakeAsManyContexts : Type 0
 ElidedSourcesTakeAsManyContexts =
-    (config : Config) (unresolved top left : ℕ) (source : Node) → HasSort sort.Module source → contexts (elided_source config unresolved top left source) ≡ contexts source
+    (config : Config) (unresolved top left : ℕ) (source : Node) → Fits source → contexts (elided_source config unresolved top left source) ≡ contexts source
