@@ -1,5 +1,5 @@
 -- What goes of imports and exports takes no context, and contexts do not matter to how many a tree takes.
-use Rattle.std.proofs.Common.{◌≡◌, ◌∙◌, ◌+◌, ℕ, zero, suc, Bool, true, false, ◌&&◌, not, cond, List, [], ◌∷◌, map, filter, length, Some, refl, sym, ap, ap₂, slice_get}
+use Rattle.std.proofs.Common.{◌≡◌, ◌∙◌, ◌+◌, ℕ, zero, suc, Bool, true, false, ◌&&◌, not, cond, List, [], ◌∷◌, map, filter, length, Some, refl, sym, ap, ap₂, slice_get, arith}
 use Rattle.ecma_kind.specs.declared.kind.Kind.{Kind}
 use Rattle.ecma_kind.specs.declared.kind.Kind.TheVariants as kind
 use Rattle.ecma_kind.specs.declared.shapes.Shape.{Shape}
@@ -98,6 +98,9 @@ unfolding role_by
 list_role r kind.List b c i j l = refl
 list_role r _ b c i j l = cc
 
+zero_more : (n : ℕ) → n ≡ 0 + n
+zero_more n = omega arith
+
 second : (a b : Bool) → (a && b) ≡ true → b ≡ true
 second true b h = h
 second false b h = cc
@@ -140,7 +143,7 @@ module _ (known : Known) where
       by : (b : Bool) → d.drops s n ≡ b
           → ((o' : ℕ → Bool) (p' : ℕ → Seat) (k : ℕ) → counted f k (map context_count (each d o' p' (filter (λ c. not (d.drops s c)) ns))) ≡ counted g (suc j) (map context_count ns))
           → counted f i (map context_count (each d o p (cond (not b) (n ∷ filter (λ c. not (d.drops s c)) ns) (filter (λ c. not (d.drops s c)) ns)))) ≡ context_count n (g j) + counted g (suc j) (map context_count ns)
-      by true e rest = rest o p i ∙ ap (λ z. z + counted g (suc j) (map context_count ns)) (sym (flat 0 n refl e (g j)))
+      by true e rest = rest o p i ∙ zero_more (counted g (suc j) (map context_count ns)) ∙ ap (λ z. z + counted g (suc j) (map context_count ns)) (sym (flat 0 n refl e (g j)))
       by false e rest = ap₂ (λ a others. a + others) (same 0 n refl (o 0) (p 0) (f i) ∙ ap (context_count n) (alike i j)) (rest (λ l. o (suc l)) (λ l. p (suc l)) (suc i))
 
   node_counted : (n : Node) → ((i : ℕ) (c : Node) → slice_get (below n) i ≡ Some c → Counted c) → Counted n

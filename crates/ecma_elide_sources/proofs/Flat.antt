@@ -80,38 +80,38 @@ is_flat_kind _ = false
 
 sort_flat : (s : Sort) (k : Kind) → is_flat s ≡ true → belongs s k ≡ true → is_flat_kind k ≡ true
 sort_flat sort.Ident (kind.Ident text ctxt optional) f h = refl
-sort_flat sort.Ident _ f h = cc
+sort_flat sort.Ident _ f h = never h
 sort_flat sort.IdentName (kind.IdentName text) f h = refl
-sort_flat sort.IdentName _ f h = cc
+sort_flat sort.IdentName _ f h = never h
 sort_flat sort.Str (kind.Str value raw) f h = refl
-sort_flat sort.Str _ f h = cc
+sort_flat sort.Str _ f h = never h
 sort_flat sort.ModuleExportName (kind.Ident text ctxt optional) f h = refl
 sort_flat sort.ModuleExportName (kind.Str value raw) f h = refl
-sort_flat sort.ModuleExportName _ f h = cc
+sort_flat sort.ModuleExportName _ f h = never h
 sort_flat sort.ImportSpecifier (kind.ImportNamedSpecifier is_type_only) f h = refl
 sort_flat sort.ImportSpecifier kind.ImportDefaultSpecifier f h = refl
 sort_flat sort.ImportSpecifier kind.ImportStarAsSpecifier f h = refl
-sort_flat sort.ImportSpecifier _ f h = cc
+sort_flat sort.ImportSpecifier _ f h = never h
 sort_flat sort.ExportSpecifier kind.ExportNamespaceSpecifier f h = refl
 sort_flat sort.ExportSpecifier kind.ExportDefaultSpecifier f h = refl
 sort_flat sort.ExportSpecifier (kind.ExportNamedSpecifier is_type_only) f h = refl
-sort_flat sort.ExportSpecifier _ f h = cc
+sort_flat sort.ExportSpecifier _ f h = never h
 sort_flat sort.TsModuleRef (kind.Ident text ctxt optional) f h = refl
 sort_flat sort.TsModuleRef kind.TsQualifiedName f h = refl
 sort_flat sort.TsModuleRef kind.TsExternalModuleRef f h = refl
-sort_flat sort.TsModuleRef _ f h = cc
+sort_flat sort.TsModuleRef _ f h = never h
 sort_flat sort.TsEntityName (kind.Ident text ctxt optional) f h = refl
 sort_flat sort.TsEntityName kind.TsQualifiedName f h = refl
-sort_flat sort.TsEntityName _ f h = cc
-sort_flat _ k f h = cc
+sort_flat sort.TsEntityName _ f h = never h
+sort_flat _ k f h = never f
 
 list_flat : (k : Kind) → is_list k ≡ true → is_flat_kind k ≡ true
 list_flat kind.List h = refl
-list_flat _ h = cc
+list_flat _ h = never h
 
 absent_flat : (k : Kind) → is_absent k ≡ true → is_flat_kind k ≡ true
 absent_flat kind.Absent h = refl
-absent_flat _ h = cc
+absent_flat _ h = never h
 
 either : (a b c : Bool) → (a ≡ true → c ≡ true) → (b ≡ true → c ≡ true) → (a || b) ≡ true → c ≡ true
 either true b c f g h = f refl
@@ -140,7 +140,7 @@ closed_flat (kind.ExportNamedSpecifier is_type_only) h r named = refl
 closed_flat kind.TsExternalModuleRef h r named = refl
 closed_flat kind.TsQualifiedName h r named = refl
 closed_flat (kind.TsImportEqualsDecl is_export is_type_only) h r named = refl
-closed_flat _ h r named = cc
+closed_flat _ h r named = never h
 
 abbrev flat_shapes : List Shape → Bool
 flat_shapes = list_all (λ u. is_flat u.sort)
@@ -165,7 +165,7 @@ shapes_flat (kind.ExportNamedSpecifier is_type_only) t m h l = refl
 shapes_flat kind.TsExternalModuleRef t m h l = refl
 shapes_flat kind.TsQualifiedName t m h l = refl
 shapes_flat (kind.TsImportEqualsDecl is_export is_type_only) t m h l = refl
-shapes_flat _ t m h l = cc
+shapes_flat _ t m h l = never h
 
 flat_at : (ts : List Shape) (i : ℕ) (u : Shape) → flat_shapes ts ≡ true → slice_get ts i ≡ Some u → is_flat u.sort ≡ true
 flat_at [] i u h at = cc
@@ -201,11 +201,11 @@ child_has n t k has e = subst (λ z. HaveShapes (child_shapes z t (length (below
 key_flat : (n : Node) (t : Shape) → HasShape t n → (k : Kind) → kind_of n ≡ k → is_attribute_key k ≡ true → Flat n
 key_flat n t has (kind.IdentName text) e h = other_flat n t has (kind.IdentName text) e refl refl
 key_flat n t has (kind.Str value raw) e h = other_flat n t has (kind.Str value raw) e refl refl
-key_flat n t has _ e h = cc
+key_flat n t has _ e h = never h
 
 text_flat : (n : Node) (t : Shape) → HasShape t n → (k : Kind) → kind_of n ≡ k → is_text k ≡ true → Flat n
 text_flat n t has (kind.Str value raw) e h = other_flat n t has (kind.Str value raw) e refl refl
-text_flat n t has _ e h = cc
+text_flat n t has _ e h = never h
 
 -- a key and a text
 pair_flat : (ns : List Node) → HaveShapes (one sort.PropName ∷ one sort.Expr ∷ []) ns → of_kind is_attribute_key (slice_get ns 0) ≡ true → of_kind is_text (slice_get ns 1) ≡ true → AllFlat ns
@@ -224,7 +224,7 @@ attribute_by : (k : Kind) (n : Node) (t : Shape) → HasShape t n → kind_of n 
 attribute_by kind.KeyValueProp n t has e h =
     let v = and_parts (child_is is_attribute_key n 0) (child_is is_text n 1) h in
     flat_node n (subst IsClosed (sym e) pair_closed) (pair_flat (below n) (child_has n t kind.KeyValueProp has e) v.0 v.1)
-attribute_by _ n t has e h = cc
+attribute_by _ n t has e h = never h
 
 attributes_all : (ns : List Node) (t : Shape) → HaveShapes (replicate (length ns) t) ns → list_all is_attribute ns ≡ true → AllFlat ns
 attributes_all [] t has h i c at = cc
@@ -236,7 +236,7 @@ attributes_all (n ∷ ns) t has h (suc i) c at = attributes_all ns t has.1 (and_
 list_of : (k : Kind) (n : Node) (t : Shape) → HasShape t n → kind_of n ≡ k → is_list k ≡ true → list_all is_attribute (below n) ≡ true → Flat n
 list_of kind.List n t has e l h =
     flat_node n (subst IsClosed (sym e) (closed_flat kind.List refl)) (attributes_all (below n) (item_shape t) (child_has n t kind.List has e) h)
-list_of _ n t has e l h = cc
+list_of _ n t has e l h = never l
 
 lone_flat : (ns : List Node) → HaveShapes (many sort.PropOrSpread ∷ []) ns → list_all is_attribute (children_of (slice_get ns 0)) ≡ true → AllFlat ns
 lone_flat [] has h i c at = absurd has
@@ -252,7 +252,7 @@ object_closed r named = refl
 object_by : (k : Kind) (n : Node) → HasShape (maybe sort.ObjectLit) n → kind_of n ≡ k → allows (maybe sort.ObjectLit) k ≡ true → holds_attributes n ≡ true → Flat n
 object_by kind.Absent n has e a h = other_flat n (maybe sort.ObjectLit) has kind.Absent e refl refl
 object_by kind.ObjectLit n has e a h = flat_node n (subst IsClosed (sym e) object_closed) (lone_flat (below n) (child_has n (maybe sort.ObjectLit) kind.ObjectLit has e) h)
-object_by _ n has e a h = cc
+object_by _ n has e a h = never a
 
 attributes_flat : (n : Node) → HasShape (maybe sort.ObjectLit) n → holds_attributes n ≡ true → Flat n
 attributes_flat n has h = object_by (kind_of n) n has refl (shape_parts n (maybe sort.ObjectLit) has).0 h
@@ -283,7 +283,7 @@ two_flat (x ∷ y ∷ z ∷ ns) has h i c at = absurd has.1.1
 -- a name alone
 name_flat : (n : Node) → HasShape (one sort.Expr) n → (test : List ℕ → ℕ → Bool) (k : Kind) → kind_of n ≡ k → of_name test k ≡ true → Flat n
 name_flat n has test (kind.Ident text ctxt optional) e h = other_flat n (one sort.Expr) has (kind.Ident text ctxt optional) e refl refl
-name_flat n has test _ e h = cc
+name_flat n has test _ e h = never h
 
 one_flat : (test : List ℕ → ℕ → Bool) (ns : List Node) → HaveShapes (one sort.Expr ∷ []) ns → first_name test ns ≡ true → AllFlat ns
 one_flat test [] has h i c at = absurd has
@@ -298,30 +298,30 @@ unshort false h = cc
 named_default : (known : Known) (s : Seat) (ns : List Node) → goes known s kind.ExportDefaultExpr ns ≡ true → first_name (names_type known) ns ≡ true
 unfolding import_goes export_goes reexport_goes alias_goes item_goes
 named_default known seat.Items ns h = h
-named_default known seat.Elsewhere ns h = cc
-named_default known seat.Imported ns h = cc
-named_default known seat.Exported ns h = cc
-named_default known seat.Reexported ns h = cc
+named_default known seat.Elsewhere ns h = never h
+named_default known seat.Imported ns h = never h
+named_default known seat.Exported ns h = never h
+named_default known seat.Reexported ns h = never h
 
 -- a node goes that is of one of these kinds
 gone_kind : (known : Known) (s : Seat) (k : Kind) (ns : List Node) → goes known s k ns ≡ true → may_go k ≡ true
 unfolding import_goes export_goes reexport_goes alias_goes item_goes
 gone_kind known seat.Elsewhere (kind.TsImportEqualsDecl is_export is_type_only) ns h = refl
-gone_kind known seat.Elsewhere _ ns h = cc
+gone_kind known seat.Elsewhere _ ns h = never h
 gone_kind known seat.Items (kind.ImportDecl type_only) ns h = refl
 gone_kind known seat.Items (kind.NamedExport type_only) ns h = refl
 gone_kind known seat.Items (kind.ExportAll type_only) ns h = refl
 gone_kind known seat.Items kind.ExportDefaultExpr ns h = refl
 gone_kind known seat.Items (kind.TsImportEqualsDecl is_export is_type_only) ns h = refl
-gone_kind known seat.Items _ ns h = cc
+gone_kind known seat.Items _ ns h = never h
 gone_kind known seat.Imported (kind.ImportNamedSpecifier is_type_only) ns h = refl
 gone_kind known seat.Imported kind.ImportDefaultSpecifier ns h = refl
 gone_kind known seat.Imported kind.ImportStarAsSpecifier ns h = refl
-gone_kind known seat.Imported _ ns h = cc
+gone_kind known seat.Imported _ ns h = never h
 gone_kind known seat.Exported (kind.ExportNamedSpecifier is_type_only) ns h = refl
-gone_kind known seat.Exported _ ns h = cc
+gone_kind known seat.Exported _ ns h = never h
 gone_kind known seat.Reexported (kind.ExportNamedSpecifier is_type_only) ns h = refl
-gone_kind known seat.Reexported _ ns h = cc
+gone_kind known seat.Reexported _ ns h = never h
 
 gone_by : (known : Known) (s : Seat) (k : Kind) (n : Node) (t : Shape) → HasShape t n → kind_of n ≡ k → is_full_by k n ≡ true → goes known s k (below n) ≡ true → Flat n
 unfolding is_full_by opens_by

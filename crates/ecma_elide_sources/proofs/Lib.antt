@@ -6,3 +6,4 @@ pub mod Reading
 pub mod Flat
 pub mod Counts
 pub mod Sources
+pub mod Keeping

@@ -18,13 +18,16 @@ use Rattle.ecma_elide_sources.proofs.Thin.{Both, Thin, bare, both_at, child_befo
 
 -- ---- values in lists
 
-any_at : (test : Node → Bool) (ns : List Node) → list_any (λ b. b) (map test ns) ≡ true → (j : ℕ) × (c : Node) × (slice_get ns j ≡ Some c) × (test c ≡ true)
+abbrev HoldsIn : (Node → Bool) → List Node → Type 0
+HoldsIn test ns = (j : ℕ) × (c : Node) × (slice_get ns j ≡ Some c) × (test c ≡ true)
+
+any_at : (test : Node → Bool) (ns : List Node) → list_any (λ b. b) (map test ns) ≡ true → HoldsIn test ns
 any_at test [] h = cc
-any_at test (n ∷ ns) h = by (test n) refl h
+any_at test (n ∷ ns) h = by (test n) refl (any_at test ns) h
   where
-    by : (b : Bool) → test n ≡ b → (b || list_any (λ x. x) (map test ns)) ≡ true → (j : ℕ) × (c : Node) × (slice_get (n ∷ ns) j ≡ Some c) × (test c ≡ true)
-    by true e g = (0, n, refl, e)
-    by false e g = let m = any_at test ns g in (suc m.0, m.1, m.2, m.3)
+    by : (b : Bool) → test n ≡ b → (list_any (λ x. x) (map test ns) ≡ true → HoldsIn test ns) → (b || list_any (λ x. x) (map test ns)) ≡ true → HoldsIn test (n ∷ ns)
+    by true e rest g = (0, n, refl, e)
+    by false e rest g = let m = rest g in (suc m.0, m.1, m.2, m.3)
 
 right_true : (a b : Bool) → b ≡ true → (a || b) ≡ true
 right_true true b h = refl

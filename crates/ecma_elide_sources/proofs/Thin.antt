@@ -22,11 +22,11 @@ clear = cleared empty
 pub list_blind : Blind Bool is_list
 list_blind text a b optional = refl
 
-pub cons_head : {X : Type 0} (a b : X) (as bs : List X) → (a ∷ as) ≡ (b ∷ bs) → a ≡ b
-cons_head a b as bs e = cc
+pub cons_head : {X : Type 0} (x y : X) (xs ys : List X) → (x ∷ xs) ≡ (y ∷ ys) → x ≡ y
+cons_head x y xs ys e = cc
 
-pub cons_tail : {X : Type 0} (a b : X) (as bs : List X) → (a ∷ as) ≡ (b ∷ bs) → as ≡ bs
-cons_tail a b as bs e = cc
+pub cons_tail : {X : Type 0} (x y : X) (xs ys : List X) → (x ∷ xs) ≡ (y ∷ ys) → xs ≡ ys
+cons_tail x y xs ys e = cc
 
 module _ {S : Type 0} (d : Dropping S) where
   -- what is left of a node that is the same but for contexts, without contexts

@@ -1,31 +1,15 @@
-//! A module as it is read, without the imports and exports that stand for types alone or that nothing uses: it is one that could have been read.
+//! A module as it is read, without the imports and exports that stand for types alone, or that nothing uses.
 //!
-//! Each function carries a law over the definitions, and does nothing. The laws are stated in `specs/Laws.antt`.
+//! Which those are is asked of the module with its bindings (docs/ELISION.md), and contexts are dropped again: what is left could have been read.
 #![tactic(auto)]
 
-ghost use Rattle.ecma_elide_sources.specs.Laws.{ElidedSourcesAreRead, ElidedSourcesNeedNoLowering, ElidedSourcesTakeAsManyContexts, ElidingKeepsNamesShort, ElidingMakesNoNames};
+mod asking;
+mod clearing;
+mod eliding;
+mod laws;
 
-/// A tree as it is read is one without what the options drop of its imports and exports, asked of it with its bindings.
-pub fn elided_sources_are_read()
-    ensures { ElidedSourcesAreRead }
-{}
-
-/// Where nothing has to be lowered but what goes with the types, nothing has without what the options drop.
-pub fn elided_sources_need_no_lowering()
-    ensures { ElidedSourcesNeedNoLowering }
-{}
-
-/// Where no identifier is long, none is without what the options drop.
-pub fn eliding_keeps_names_short()
-    ensures { ElidingKeepsNamesShort }
-{}
-
-/// Where no identifier is made, none is without what the options drop.
-pub fn eliding_makes_no_names()
-    ensures { ElidingMakesNoNames }
-{}
-
-/// A module that fits takes as many contexts without what the options drop.
-pub fn elided_sources_take_as_many_contexts()
-    ensures { ElidedSourcesTakeAsManyContexts }
-{}
+pub use eliding::elide_source;
+pub use laws::{
+    elided_sources_are_read, elided_sources_need_no_lowering, elided_sources_take_as_many_contexts,
+    eliding_keeps_names_short, eliding_makes_no_names,
+};
