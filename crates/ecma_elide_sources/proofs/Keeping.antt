@@ -11,6 +11,7 @@ use Rattle.ecma_elide.proofs.Quiet.{trees_without_stay}
 use Rattle.ecma_scope.specs.Resolved.{resolved}
 use Rattle.ecma_scope.proofs.Unchanged.{changes-contexts}
 use Rattle.ecma_scope_fits.proofs.Moved.{blind, fold_same}
+use Rattle.ecma_elide_sources.specs.Laws.{KeptSourcesStay}
 use Rattle.ecma_elide_sources.specs.Sources.{elided_source, is_kept}
 use Rattle.ecma_elide_sources.proofs.Thin.{bare, clear, empty}
 
@@ -39,3 +40,6 @@ module _ (config : Config) (unresolved top left : ℕ) (source : Node) (is_bare 
       by true e b f g = verbatim e
       by false e true f g = cc
       by false e false f g = ap clear (trees_without_stay config bound (sym (finds_cleared bound) ∙ ap (finds may_go enters_all) (changes-contexts unresolved top left source) ∙ finds_cleared source ∙ f)) ∙ back
+
+pub sources_stay : KeptSourcesStay
+sources_stay config unresolved top left source is_bare = kept_source config unresolved top left source is_bare

@@ -1,5 +1,5 @@
 -- What is read as a module stays what is read as a module without what the options drop.
-use Rattle.std.specs.Prelude.{◌≡◌, ℕ, None}
+use Rattle.std.specs.Prelude.{◌≡◌, ℕ, true, None}
 use Rattle.ecma_kind.specs.declared.shapes.Sort.TheVariants as sort
 use Rattle.ecma_tree.specs.declared.node.Node.{Node}
 use Rattle.ecma_tree.specs.Sorted.{HasSort}
@@ -9,8 +9,9 @@ use Rattle.ecma_forms.specs.Forms.{first_unlowered}
 use Rattle.ecma_hygiene_fits.specs.Placed.{NoneMade}
 use Rattle.ecma_hygiene_fits.specs.Spelled.{NoneLong}
 use Rattle.ecma_plain.specs.Read.{IsRead}
+use Rattle.ecma_scope.specs.Laws.{without_contexts}
 use Rattle.ecma_scope.specs.Resolved.{contexts}
-use Rattle.ecma_elide_sources.specs.Sources.{elided_source}
+use Rattle.ecma_elide_sources.specs.Sources.{elided_source, is_kept}
 
 -- a tree as it is read is one then
 abbrev pub ElidedSourcesAreRead : Type 0
@@ -34,3 +35,8 @@ ElidingMakesNoNames = (config : Config) (unresolved top left : ℕ) (source : No
 abbrev pub ElidedSourcesTakeAsManyContexts : Type 0
 ElidedSourcesTakeAsManyContexts =
     (config : Config) (unresolved top left : ℕ) (source : Node) → Fits source → contexts (elided_source config unresolved top left source) ≡ contexts source
+
+-- a module of which nothing may go stays
+abbrev pub KeptSourcesStay : Type 0
+KeptSourcesStay =
+    (config : Config) (unresolved top left : ℕ) (source : Node) → without_contexts source ≡ source → is_kept config source ≡ true → elided_source config unresolved top left source ≡ source

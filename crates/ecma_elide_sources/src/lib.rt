@@ -11,5 +11,5 @@ mod laws;
 pub use eliding::elide_source;
 pub use laws::{
     elided_sources_are_read, elided_sources_need_no_lowering, elided_sources_take_as_many_contexts,
-    eliding_keeps_names_short, eliding_makes_no_names,
+    eliding_keeps_names_short, eliding_makes_no_names, kept_sources_stay,
 };
