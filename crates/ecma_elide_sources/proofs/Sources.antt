@@ -43,12 +43,12 @@ module _ (config : Config) (unresolved top left : ℕ) (source : Node) where
       of_elided (λ n. P (clear n)) config bound ((keeps-sorts unresolved top left source sort.Module).1 sorted) (every (nothing Seat) (clear bound) whole)
       (λ known. every (dropping known) (clear (without (dropping known) seat.Elsewhere bound)) (thin (dropping known)))
 
-  pub fits : Fits source → Fits (elided_source config unresolved top left source)
-  fits f = (contexts_do_not_matter empty (elided config bound)).1 (elided_trees_fit config bound ((resolved_fit_alike unresolved top left source).1 f))
+  fits_left : Fits source → Fits (elided_source config unresolved top left source)
+  fits_left f = (contexts_do_not_matter empty (elided config bound)).1 (elided_trees_fit config bound ((resolved_fit_alike unresolved top left source).1 f))
 
 pub sources_are_read : ElidedSourcesAreRead
 sources_are_read config unresolved top left source is = record {
-  fits = fits config unresolved top left source is.fits;
+  fits = fits_left config unresolved top left source is.fits;
   bare = of_source config unresolved top left source (λ n. Everywhere IsBareUnquestioned n) is.fits.sorted (λ d a t. bare_left d a source t is.bare);
   hashbang = of_source config unresolved top left source (λ n. HasUtf8Hashbang (kind_of n)) is.fits.sorted (λ d a t. hashbang_left d a source t is.hashbang);
 }
