@@ -1,4 +1,4 @@
-use Rattle.std.proofs.Common.{◌≡◌, ◌∙◌, sym, length, arith}
+use Rattle.std.proofs.Common.{◌≡◌, ◌∙◌, length, arith}
 use Rattle.ecma_tree.specs.declared.node.Node.{out-Node}
 use Rattle.ecma_tree.specs.Changing.{changed}
 use Rattle.ecma_tree.specs.Contexts.{kind_with_context}
