@@ -1,0 +1,9 @@
+pub mod Thin
+pub mod Staying
+pub mod Walking
+pub mod Lowering
+pub mod Reading
+pub mod Flat
+pub mod Counts
+pub mod Sources
+pub mod Keeping
