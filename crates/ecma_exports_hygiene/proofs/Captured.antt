@@ -15,7 +15,7 @@ use Rattle.ecma_fits.specs.Roles.{is_out_of_role}
 use Rattle.ecma_scope.specs.declared.role.Role.TheVariants as role
 use Rattle.ecma_scope.specs.declared.form.Sought.{Sought}
 use Rattle.ecma_scope.specs.Declarations.{holds_vars}
-use Rattle.ecma_scope.specs.Scopes.{is_there, opens_by}
+use Rattle.ecma_scope.specs.Scopes.{is_there, opens_by, role_in}
 use Rattle.ecma_strip.specs.Staying.{is_export, stays}
 use Rattle.ecma_strip.specs.Stripping.{stripped}
 use Rattle.ecma_strip.proofs.Stripping.{stripped-out}
@@ -38,6 +38,7 @@ use Rattle.ecma_runs.specs.Evaluation.{meaning, meaning_by, no_effect, role_by}
 use Rattle.ecma_runs.specs.Observation.{exports_in}
 use Rattle.ecma_runs.proofs.Layer.{meaning_out}
 use Rattle.ecma_strip_scopes.specs.Apart.{IsClearScope, IsClearSeat}
+use Rattle.ecma_strip_scopes.specs.Staying.{staying_from, staying_seats}
 use Rattle.ecma_strip_scopes.proofs.Declared.{what-stays-is-declared}
 use Rattle.ecma_strip_scopes.proofs.Going.{only, parts-have}
 use Rattle.ecma_strip_scopes.proofs.StayingSeats.{staying-out}
@@ -135,7 +136,8 @@ module _ (assignments : Bool) (free : ℕ) (tree : Node) (names : List Naming) (
   root-clear : IsClearScope true role.Root tree
   root-clear =
       let all = subst (All (IsClearSeat true)) (staying-out tree role.Root) (modules-are-clear tree ready.fits ready.types) in
-      (All-head (IsClearSeat true) (record { role = role.Root; node = tree }) _ all (module-opens (out-Node tree).kind (is_there (out-Node tree).children 0) m.whole)).1
+      (All-head (IsClearSeat true) (record { role = role.Root; node = tree })
+      (staying_from (is_list (out-Node tree).kind) (role_in role.Root tree) 0 (out-Node tree).children (map staying_seats (out-Node tree).children)) all (module-opens (out-Node tree).kind (is_there (out-Node tree).children 0) m.whole)).1
 
   items-clear : AllClear item_sought (filter stays (out-Node m.body).children)
   items-clear =

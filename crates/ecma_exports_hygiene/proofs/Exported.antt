@@ -1,5 +1,5 @@
 -- What a module exports under its own name is declared by declarations behind `export`.
-use Rattle.std.proofs.Common.{◌≡◌, ◌⊎◌, inl, inr, refl, sym, ap, ap₂, ◌∙◌, subst, ℕ, suc, List, [], ◌∷◌, ◌++◌, map, length, replicate, Option, Some, None, Bool, true, false, cond, ◌&&◌, ◌||◌, bytes_eq, nat_eq, codes, eq-eqb}
+use Rattle.std.proofs.Common.{◌≡◌, ◌⊎◌, inl, inr, refl, sym, ap, ap₂, ◌∙◌, subst, ℕ, List, [], ◌∷◌, ◌++◌, map, length, replicate, Option, Some, None, Bool, true, false, cond, ◌||◌, bytes_eq, nat_eq, codes, eq-eqb}
 use Rattle.ecma_kind.specs.Sorts.{belongs}
 use Rattle.ecma_kind.specs.declared.kind.Kind.{Kind}
 use Rattle.ecma_kind.specs.declared.kind.Kind.TheVariants as kind
@@ -22,7 +22,7 @@ use Rattle.ecma_runs.specs.Declarations.{all_exports, exported_from, has_no_effe
 use Rattle.ecma_runs.specs.Evaluation.{meaning, meaning_by, no_effect, role_by}
 use Rattle.ecma_runs.proofs.Layer.{meaning_out}
 use Rattle.ecma_pipeline_meeting.proofs.Items.{is_item, item-are}
-use Rattle.ecma_pipeline_meeting.proofs.Parts.{AllPlain, among-append, ids-append, kept, plain-head, plain-kind, plain-out, plain-tail, sound-out}
+use Rattle.ecma_pipeline_meeting.proofs.Parts.{AllPlain, among-append, ids-append, kept, plain-head, plain-kind, plain-out, sound-out}
 use Rattle.ecma_pipeline_meeting.proofs.Patterns.{shape_out}
 use Rattle.ecma_pipeline_meeting.proofs.Scopes.{Placed}
 use Rattle.ecma_pipeline_meeting.proofs.Variables.{has-vars, inner-kind, item_sought, var_sought}

@@ -1,5 +1,5 @@
 -- What a declaration behind `export` declares is among the names that a module exports so.
-use Rattle.std.proofs.Common.{◌≡◌, ◌⊎◌, inl, inr, refl, sym, ap, ◌∙◌, subst, ℕ, suc, List, [], ◌∷◌, ◌++◌, map, filter, length, replicate, Option, Some, None, Bool, true, false, cond, not, ◌&&◌, bytes_eq, codes, slice_get}
+use Rattle.std.proofs.Common.{◌≡◌, refl, sym, ap, ◌∙◌, ℕ, suc, List, [], ◌∷◌, ◌++◌, map, filter, length, Option, Some, None, Bool, true, false, cond, not, ◌&&◌, bytes_eq, codes, slice_get}
 use Rattle.ecma_kind.specs.Sorts.{belongs}
 use Rattle.ecma_kind.specs.declared.kind.Kind.{Kind}
 use Rattle.ecma_kind.specs.declared.kind.Kind.TheVariants as kind
@@ -27,7 +27,7 @@ use Rattle.ecma_hygiene_scopes.proofs.Directly.{ids-out}
 use Rattle.ecma_hygiene_runs.specs.Plain.{is_plain_kind}
 use Rattle.ecma_strip_scopes.proofs.Going.{parts-have}
 use Rattle.ecma_exports_hygiene.proofs.FreeNames.{ItemsAt, listed-shift, texts-out}
-use Rattle.ecma_exports_hygiene.proofs.Names.{Named, at-place, kept, kept-alone, kept-split, name_sought, named, named-first, named-second, none-kept}
+use Rattle.ecma_exports_hygiene.proofs.Names.{Named, at-place, kept, kept-alone, name_sought, named, named-second, none-kept}
 
 abbrev pub item_sought : Sought
 item_sought = record { part = part.Item; stays = true }

@@ -1,5 +1,5 @@
 -- What lasts where types go is there before, and is not `this`.
-use Rattle.std.proofs.Common.{◌≡◌, refl, sym, ap, ◌∙◌, subst, List, [], ◌∷◌, filter, Bool, true, false, cond, not, ◌&&◌, ◌||◌, bytes_eq, codes}
+use Rattle.std.proofs.Common.{◌≡◌, refl, sym, ap, ◌∙◌, subst, List, [], ◌∷◌, filter, Bool, true, false, cond, not, ◌||◌, bytes_eq, codes}
 use Rattle.std.specs.List.{list_any}
 use Rattle.ecma_hygiene.specs.Ids.{Id, same_id}
 use Rattle.ecma_hygiene.proofs.Telling.{and-left, or-second, true-false}

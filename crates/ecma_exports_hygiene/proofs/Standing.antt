@@ -1,5 +1,5 @@
 -- What holds of the span and the kind of each node holds at each stop; and where no identifier was made no binding is new.
-use Rattle.std.proofs.Common.{◌≡◌, ℕ, suc, ◌-◌, Bool, true, false, ◌&&◌, ◌||◌, not, List, [], ◌∷◌, ◌++◌, map, refl, sym, ap, ◌∙◌, subst}
+use Rattle.std.proofs.Common.{◌≡◌, ℕ, suc, ◌-◌, Bool, true, false, ◌&&◌, ◌||◌, not, List, [], ◌∷◌, map, refl, sym, ap, ◌∙◌, subst}
 use Rattle.std.specs.List.{All, list_any}
 use Rattle.std.proofs.lemmas.List.Elements.{All-append, All-cons, All-head, All-nil, All-tail}
 use Rattle.ecma_kind.specs.declared.kind.Kind.{Kind}
@@ -18,7 +18,7 @@ use Rattle.ecma_hygiene.proofs.Walking.{gathered-out}
 use Rattle.ecma_hygiene_fits.specs.Placed.{NoneMade}
 use Rattle.ecma_hygiene_scopes.specs.Stops.{Stop, stops_at, stops_from}
 use Rattle.ecma_hygiene_scopes.proofs.Stopping.{stops-out}
-use Rattle.ecma_pipeline_spans.proofs.Trees.{Each, Everywhere, children_good, more, none, own_good}
+use Rattle.ecma_pipeline_spans.proofs.Trees.{Each, Everywhere, children_good, more, own_good}
 use Rattle.ecma_pipeline_spans.proofs.Throughout.{IsOwn, all_own}
 
 -- ---- stops

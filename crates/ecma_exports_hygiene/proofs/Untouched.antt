@@ -10,7 +10,7 @@ use Rattle.ecma_kind.specs.declared.shapes.Sort.TheVariants as sort
 use Rattle.ecma_tree.specs.declared.node.Node.{Node, out-Node}
 use Rattle.ecma_scope.specs.declared.role.Role.TheVariants as role
 use Rattle.ecma_scope.specs.Resolved.{taken}
-use Rattle.ecma_scope.specs.Scopes.{is_there, opens, opens_by}
+use Rattle.ecma_scope.specs.Scopes.{is_there, opens_by}
 use Rattle.ecma_strip.specs.Stripping.{stripped}
 use Rattle.ecma_exports.specs.Exports.{exported_names, first_among, first_captured, free_names, is_among}
 use Rattle.ecma_exports.specs.Places.{free_text}

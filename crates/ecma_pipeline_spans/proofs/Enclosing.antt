@@ -1,5 +1,5 @@
 -- A tree with parentheses added has its identifiers where they stood.
-use Rattle.std.proofs.Common.{◌∙◌, List, [], ◌∷◌, refl, subst}
+use Rattle.std.proofs.Common.{◌∙◌, List, refl, subst}
 use Rattle.ecma_kind.specs.declared.kind.Kind.{Kind}
 use Rattle.ecma_kind.specs.declared.kind.Kind.TheVariants as kind
 use Rattle.ecma_kind.specs.declared.shapes.Sort.TheVariants as sort
