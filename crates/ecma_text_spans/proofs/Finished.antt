@@ -1,5 +1,5 @@
 -- No identifier of a finished tree was made, where none of the raw tree was.
-use Rattle.std.proofs.Common.{ℕ, suc, false, List, [], ◌∷◌, ◌++◌, map, sym, subst}
+use Rattle.std.proofs.Common.{ℕ, suc, false, List, [], ◌∷◌, ◌++◌, map, refl, sym, subst}
 use Rattle.ecma_kind.specs.declared.span.Span.{Span}
 use Rattle.ecma_kind.specs.declared.operators.AssignOp.{AssignOp}
 use Rattle.ecma_kind.specs.declared.operators.AssignOp.TheVariants.{Assign}

@@ -330,7 +330,7 @@ module _ (stop : ℕ) where
   member_form_good : (at : Span) → at.hi ≡ stop → {xs : List Node} → A xs → G (member at xs)
   member_form_good at e none = missing_node
   member_form_good at e (more a none) = missing_node
-  member_form_good at e (more {n = m} a (more {n = n} b none)) = member_by_good at was e m (kind_of n) (kind_good P b) (children_good P b)
+  member_form_good at e (more {n = m} a (more {n = n} b none)) = member_by_good at (span_of n) e m (kind_of n) (own_good P b) (children_good P b)
   member_form_good at e (more a (more b (more c h))) = missing_node
 
   index_good : (at : Span) {xs : List Node} → A xs → G (index_signature at xs)

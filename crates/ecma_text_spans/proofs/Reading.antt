@@ -27,7 +27,7 @@ use Rattle.ecma_text_spans.specs.Laws.{NamesThatAreReadStandInTheSource}
 use Rattle.ecma_text_spans.proofs.Finished.{finished_good}
 use Rattle.ecma_text_spans.proofs.Placed.{IsPlaced}
 use Rattle.ecma_text_spans.proofs.Readings.{All, module_stands}
-use Rattle.ecma_text_spans.proofs.Trees.{Everywhere, everywhere, good_absent, good_framed, more, none}
+use Rattle.ecma_text_spans.proofs.Trees.{Each, Everywhere, everywhere, good_absent, good_framed, more, none}
 
 -- ---- an identifier of a sorted tree is a leaf
 
@@ -47,17 +47,18 @@ own-placed stop shape at (kind.Ident text ctxt optional) [] h p = behind-start a
 own-placed stop shape at (kind.Ident text ctxt optional) (c ∷ cs) h p = absurd h
 own-placed stop shape at _ cs h p = refl
 
-mutual
-  own-good : (stop : ℕ) {n : Node} → Everywhere (IsPlaced stop) n → (shape : RawShape) → HasRawShape shape n → OwnNode n
-  own-good stop (everywhere at k {children = cs} p all) shape h =
-      let parts : Node-F Node = record { span = at; kind = k; children = cs } in
-      let s = subst (λ (z : Node-F Node). HaveRaw (child_shapes_raw z.kind shape (length z.children)) z.children) (out-roll-Node parts) (parts_of (node_of at k cs) shape h).1 in
-      own_everywhere at k (own-placed stop shape at k cs s p) (own-all stop all (child_shapes_raw k shape (length cs)) s)
+module _ (stop : ℕ) where
+  mutual
+    own-good : {n : Node} → Everywhere (IsPlaced stop) n → (shape : RawShape) → HasRawShape shape n → OwnNode n
+    own-good (everywhere at k {children = cs} p all) shape h =
+        let parts : Node-F Node = record { span = at; kind = k; children = cs } in
+        let s = subst (λ (z : Node-F Node). HaveRaw (child_shapes_raw z.kind shape (length z.children)) z.children) (out-roll-Node parts) (parts_of (node_of at k cs) shape h).1 in
+        own_everywhere at k (own-placed stop shape at k cs s p) (own-all all (child_shapes_raw k shape (length cs)) s)
 
-  own-all : (stop : ℕ) {ns : List Node} → All stop ns → (shapes : List RawShape) → HaveRaw shapes ns → AllOwn ns
-  own-all stop none shapes h = own_none
-  own-all stop (more a all) [] h = absurd h
-  own-all stop (more a all) (shape ∷ shapes) h = own_more (own-good stop a shape h.0) (own-all stop all shapes h.1)
+    own-all : {ns : List Node} → Each (IsPlaced stop) ns → (shapes : List RawShape) → HaveRaw shapes ns → AllOwn ns
+    own-all none shapes h = own_none
+    own-all (more a all) [] h = absurd h
+    own-all (more a all) (shape ∷ shapes) h = own_more (own-good a shape h.0) (own-all all shapes h.1)
 
 -- ---- what is read
 

@@ -37,13 +37,14 @@ abbrev pub All : ℕ → List Node → Type 0
 All stop = Each (IsPlaced stop)
 
 -- so it is up to a place further on
-mutual
-  good_further : (stop later : ℕ) → stop ≤ later → {n : Node} → Everywhere (IsPlaced stop) n → Everywhere (IsPlaced later) n
-  good_further stop later l (everywhere at k {children = cs} p h) = everywhere at k (further stop later at k cs l p) (all_further stop later l h)
+module _ (stop later : ℕ) (l : stop ≤ later) where
+  mutual
+    good_further : {n : Node} → Everywhere (IsPlaced stop) n → Everywhere (IsPlaced later) n
+    good_further (everywhere at k {children = cs} p h) = everywhere at k (further stop later at k cs l p) (all_further h)
 
-  all_further : (stop later : ℕ) → stop ≤ later → {ns : List Node} → All stop ns → All later ns
-  all_further stop later l none = none
-  all_further stop later l (more a h) = more (good_further stop later l a) (all_further stop later l h)
+    all_further : {ns : List Node} → Each (IsPlaced stop) ns → Each (IsPlaced later) ns
+    all_further none = none
+    all_further (more a h) = more (good_further a) (all_further h)
 
 abbrev Stand : Outcome (List Node) → Type 0
 Stand o = (t : Position) (xs : List Node) → o ≡ read xs t → All t.place xs
@@ -108,8 +109,8 @@ goes_read xs s from l t ys e = let same : s ≡ t = cc in let place = ap (λ (z 
 
 goes_front : (from : ℕ) (xs : List Node) (o : Outcome (List Node)) → GoesOn from o → GoesOn from (with_front xs o)
 goes_front from xs (read ys u) g = goes_read (xs ++ ys) u from (g u ys refl)
-goes_front from xs (fails n) g t ys e = cc
-goes_front from xs (too_deep n) g t ys e = cc
+goes_front from xs (fails n) g = λ t ys e. cc
+goes_front from xs (too_deep n) g = λ t ys e. cc
 
 goes_further : (from later : ℕ) (o : Outcome (List Node)) → from ≤ later → GoesOn later o → GoesOn from o
 goes_further from later o l g t xs e = let more_on = g t xs e in omega (arith, l, more_on)
@@ -139,14 +140,14 @@ abbrev Ends : Outcome Token → Type 0
 Ends o = (t : Position) (k : Token) → o ≡ read k t → k.next ≡ t.place
 
 ends_terminal : (s : Position) (r : Result Token NoToken) → Ends (terminal_on s r)
-ends_terminal s (Ok token) t k e =
-    let same : token ≡ k = cc in
-    let after : Position = record { place = token.next; failed = s.failed } in
+ends_terminal s (Ok a) t k e =
+    let same : a ≡ k = cc in
+    let after : Position = record { place = a.next; failed = s.failed } in
     let place : after ≡ t = cc in
-    let a = ap (λ (z : Token). z.next) same in
-    let b = ap (λ (z : Position). z.place) place in
-    omega (arith, a, b)
-ends_terminal s (Err no) t k e = cc
+    let before = ap (λ (z : Token). z.next) same in
+    let behind = ap (λ (z : Position). z.place) place in
+    omega (arith, before, behind)
+ends_terminal s (Err reason) t k e = cc
 
 one_ident : (text : Token → List ℕ) (o : Outcome Token) → Ends o → One (then_on (λ k. pure (at_token k (kind.Ident (text k) 0 false))) o)
 one_ident text (read k u) h t x e l =
