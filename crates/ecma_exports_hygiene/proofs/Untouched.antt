@@ -7,6 +7,7 @@ use Rattle.ecma_kind.specs.Sorts.{belongs}
 use Rattle.ecma_kind.specs.declared.kind.Kind.{Kind}
 use Rattle.ecma_kind.specs.declared.kind.Kind.TheVariants as kind
 use Rattle.ecma_kind.specs.declared.shapes.Sort.TheVariants as sort
+use Rattle.ecma_tree.specs.Sorted.{one}
 use Rattle.ecma_tree.specs.declared.node.Node.{Node, out-Node}
 use Rattle.ecma_scope.specs.declared.role.Role.TheVariants as role
 use Rattle.ecma_scope.specs.Resolved.{taken}
@@ -27,7 +28,9 @@ use Rattle.ecma_hygiene_scopes.specs.Apart.{AreApart, IsScoped, TellsScopesApart
 use Rattle.ecma_hygiene_scopes.specs.Stops.{Stop, stops_at, stops_from}
 use Rattle.ecma_hygiene_scopes.proofs.Membership.{contexts-agree}
 use Rattle.ecma_hygiene_scopes.proofs.Stopping.{stops-below, stops-out}
+use Rattle.ecma_strip_scopes.proofs.Going.{parts-have}
 use Rattle.ecma_strip_scopes.proofs.ScopesSame.{id-context}
+use Rattle.ecma_exports_hygiene.specs.Laws.{BindingsThatAreNotCapturedKeepTheirTexts}
 use Rattle.ecma_exports_hygiene.proofs.FreeNames.{IsOther, other-text, others-left}
 use Rattle.ecma_exports_hygiene.proofs.Keeping.{keeps-text}
 use Rattle.ecma_exports_hygiene.proofs.Meetings.{Fine, hits, none-met}
@@ -119,3 +122,6 @@ module _ (free : ℕ) (tree : Node) (id : Id) where
         let met = meetings whole in
         keeps-text seen met names id texts (none-new id whole made)
         (and-no (not (is_new seen id)) (is_met seen met id) (never-met id seen met (none-met id free whole (0 - taken role.Root whole) is fine)))
+
+pub bindings-keep : BindingsThatAreNotCapturedKeepTheirTexts
+bindings-keep free tree names id has tells made none exported rooted texts = keeps free tree id (parts-have (stripped tree) (one sort.Module) has).0 tells rooted exported none names texts made
