@@ -43,7 +43,6 @@ use Rattle.ecma_strip_scopes.proofs.Declared.{what-stays-is-declared}
 use Rattle.ecma_strip_scopes.proofs.Going.{only, parts-have}
 use Rattle.ecma_strip_scopes.proofs.StayingSeats.{staying-out}
 use Rattle.ecma_pipeline_meeting.proofs.Parts.{AllPlain, plain-head, plain-out, plain-tail, sound-out}
-use Rattle.ecma_pipeline_meeting.proofs.Scopes.{Placed}
 use Rattle.ecma_pipeline_meeting.proofs.Walks.{Each}
 use Rattle.ecma_pipeline_runs.proofs.ClearSeats.{modules-are-clear}
 use Rattle.ecma_pipeline_runs.proofs.PlainModules.{modules-are-plain}
@@ -52,7 +51,7 @@ use Rattle.ecma_ready.specs.Ready.{HasOwnContexts, IsReady}
 use Rattle.ecma_pipeline_spans.specs.Laws.{StrippingMakesNoNames}
 use Rattle.ecma_exports_hygiene.specs.Laws.{ExportsThatAreNotCapturedKeepTheirTexts}
 use Rattle.ecma_exports_hygiene.proofs.Clear.{AllClear, IsClear, child-clear, export-items, export-vars, list-clear, list-items, list-vars, module-items, module-vars, scope_sought}
-use Rattle.ecma_exports_hygiene.proofs.Exported.{Declared, Every, every-append, every-map, item-exports, names-append}
+use Rattle.ecma_exports_hygiene.proofs.Exported.{Declared, Every, Placed, every-append, every-map, item-exports, names-append}
 use Rattle.ecma_exports_hygiene.proofs.Items.{AllNamesIn, NamesIn, export-named, item-named, item_sought, module-names, var-named, var_sought}
 use Rattle.ecma_exports_hygiene.proofs.Lasting.{Lasting, lasting-of}
 use Rattle.ecma_exports_hygiene.proofs.Modules.{IsModule, decl-item, export-kind, export-plain, export-stripped, is-module, is_full, items-stripped, kind-left, kind-plain}
@@ -180,7 +179,7 @@ module _ (assignments : Bool) (free : ℕ) (tree : Node) (names : List Naming) (
         let item = (parts-have c (one sort.ModuleItem) shape).0 in
         let is = export-kind (out-Node c).kind (sym (export-plain (out-Node c).kind) ∙ ap is_export (sym (kind-left c item)) ∙ ap is_export e.exports) in
         let x = only (one sort.Decl) (out-Node c).children
-            (subst (λ k. HaveShapes (child_shapes k (one sort.ModuleItem) (length (out-Node c).children)) (out-Node c).children) is (parts-have c (one sort.ModuleItem) shape).1) in
+        (subst (λ k. HaveShapes (child_shapes k (one sort.ModuleItem) (length (out-Node c).children)) (out-Node c).children) is (parts-have c (one sort.ModuleItem) shape).1) in
         let d = x.0 in
         let lists : e.declaration ∷ [] ≡ stripped d ∷ [] =
         sym e.holds ∙ ap (λ (n : Node). (out-Node n).children) (stripped-out c) ∙ export-stripped (out-Node c).span (out-Node c).kind (out-Node c).children d is x.1 in

@@ -22,11 +22,14 @@ use Rattle.ecma_runs.specs.Declarations.{all_exports, exported_from, has_no_effe
 use Rattle.ecma_runs.specs.Evaluation.{meaning, meaning_by, no_effect, role_by}
 use Rattle.ecma_runs.proofs.Layer.{meaning_out}
 use Rattle.ecma_pipeline_meeting.proofs.Items.{is_item, item-are}
-use Rattle.ecma_pipeline_meeting.proofs.Parts.{AllPlain, among-append, ids-append, kept, plain-head, plain-kind, plain-out, sound-out}
+use Rattle.ecma_pipeline_meeting.proofs.Parts.{AllPlain, Sound, among-append, ids-append, kept, plain-head, plain-kind, plain-out, sound-out}
 use Rattle.ecma_pipeline_meeting.proofs.Patterns.{shape_out}
-use Rattle.ecma_pipeline_meeting.proofs.Scopes.{Placed}
 use Rattle.ecma_pipeline_meeting.proofs.Variables.{has-vars, inner-kind, item_sought, var_sought}
 use Rattle.ecma_pipeline_meeting.proofs.Walks.{Each}
+
+-- a node that may be what it is where it stands
+abbrev pub Placed : Where → Node → Type 0
+Placed = Sound (λ w node. is_out_of_role w.role node)
 
 or-cases : (a b : Bool) → (a || b) ≡ true → (a ≡ true) ⊎ (b ≡ true)
 or-cases true b h = inl refl

@@ -6,7 +6,7 @@ pub mod Quiet
 pub mod Variables
 pub mod Items
 mod Members
-pub mod Scopes
+mod Scopes
 mod Standing
 mod Locals
 mod Records
