@@ -1,10 +1,10 @@
-mod Walks
-mod Parts
+pub mod Walks
+pub mod Parts
 mod Apart
-mod Patterns
-mod Quiet
-mod Variables
-mod Items
+pub mod Patterns
+pub mod Quiet
+pub mod Variables
+pub mod Items
 mod Members
 mod Scopes
 mod Standing

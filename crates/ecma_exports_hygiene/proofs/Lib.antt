@@ -1,0 +1,13 @@
+mod Keeping
+mod Meetings
+mod FreeNames
+mod Standing
+mod Names
+mod Items
+mod Clear
+mod Rooted
+mod Exported
+mod Lasting
+mod Modules
+mod Untouched
+mod Captured

@@ -1,0 +1,7 @@
+pub mod Trees
+pub mod Throughout
+pub mod Contexts
+pub mod PlainNodes
+pub mod Stripping
+pub mod Binding
+pub mod Enclosing

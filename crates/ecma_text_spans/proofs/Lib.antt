@@ -1,0 +1,6 @@
+mod Trees
+mod Placed
+mod Forms
+mod Readings
+mod Finished
+mod Reading
