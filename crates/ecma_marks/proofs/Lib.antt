@@ -1,0 +1,14 @@
+pub mod Modules
+pub mod Adding
+pub mod Before
+pub mod Export
+pub mod Interfaces
+pub mod Captures
+pub mod Runs
+pub mod Walks
+pub mod Clauses
+pub mod Fitting
+pub mod Conflicts
+pub mod Scopes
+pub mod Contexts
+pub mod Ready
