@@ -1,5 +1,5 @@
 -- A module has the interface that it has with bound names: none of those is declared.
-use Rattle.std.proofs.Common.{◌≡◌, ◌∙◌, ◌==◌, ℕ, zero, suc, Bool, true, false, cond, List, [], ◌∷◌, refl, sym, ap, subst}
+use Rattle.std.proofs.Common.{◌≡◌, ◌∙◌, ◌==◌, ℕ, suc, Bool, true, false, cond, List, [], ◌∷◌, refl, sym, ap, subst}
 use Rattle.ecma_kind.specs.declared.kind.Kind.{Kind}
 use Rattle.ecma_kind.specs.declared.kind.Kind.TheVariants as kind
 use Rattle.ecma_tree.specs.declared.node.Node.{Node}
@@ -136,5 +136,3 @@ module _ (text : Id → List ℕ) where
 
 pub binding_keeps : BindingKeepsInterfaces
 binding_keeps text tree sorted = alike_interfaces text text Binds (alike text) tree (with_bound_names tree) sorted (role.Free, refl, refl)
-
-pub ruleset binding = (binding_keeps)

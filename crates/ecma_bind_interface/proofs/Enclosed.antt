@@ -1,5 +1,5 @@
 -- A resolved module has the interface that it has with parentheses added.
-use Rattle.std.proofs.Common.{◌≡◌, ◌∙◌, ℕ, suc, ◌-◌, Bool, true, false, ◌&&◌, cond, List, [], ◌∷◌, ◌++◌, map, refl, sym, ap, ap₂, subst}
+use Rattle.std.proofs.Common.{◌≡◌, ◌∙◌, ℕ, suc, ◌-◌, Bool, false, ◌&&◌, cond, List, [], ◌∷◌, ◌++◌, map, refl, sym, ap, subst}
 use Rattle.ecma_kind.specs.declared.kind.Kind.{Kind}
 use Rattle.ecma_kind.specs.declared.kind.Kind.TheVariants as kind
 use Rattle.ecma_kind.specs.declared.shapes.Sort.TheVariants as sort
@@ -13,7 +13,7 @@ use Rattle.ecma_scope.specs.Scopes.{covers, is_root}
 use Rattle.ecma_scope.proofs.Opening.{resolved_at-out}
 use Rattle.ecma_scope.proofs.Unchanged.{keeps-sorts}
 use Rattle.ecma_enclose.specs.Enclosing.{enclosed}
-use Rattle.ecma_enclose_fits.proofs.Adding.{Adds, All, adds, children_of, enclosed_adds, is_open, more, none}
+use Rattle.ecma_enclose_fits.proofs.Adding.{Adds, All, children_of, enclosed_adds, is_open, more, none}
 use Rattle.ecma_enclose_fits.proofs.Alike.{all_of, kind_same}
 use Rattle.ecma_enclose_scopes.proofs.Counted.{count_same, taken_same}
 use Rattle.ecma_enclose_scopes.proofs.Declared.{names_same, opens_same, role_same}
@@ -90,5 +90,3 @@ pub enclosing_keeps : EnclosingKeepsInterfaces
 enclosing_keeps text unresolved top left tree sorted =
     alike_interfaces text text (Resolves unresolved top) (alike unresolved top text) (resolved unresolved top left tree) (resolved unresolved top left (enclosed tree))
     ((keeps-sorts unresolved top left tree sort.Module).1 sorted) (tree, enclosed tree, nowhere, left, enclosed_adds tree (one sort.Module, sorted), refl, refl)
-
-pub ruleset enclosing = (enclosing_keeps)

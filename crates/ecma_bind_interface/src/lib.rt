@@ -7,13 +7,11 @@
 ghost use Rattle.ecma_bind_interface.specs.Laws.{BindingKeepsInterfaces, EnclosingKeepsInterfaces};
 
 /// A resolved module with such parentheses has the interface that it has without them.
-#[tactic(auto, using(crate::proofs::Enclosed::enclosing))]
 pub fn enclosing_keeps_interfaces()
     ensures { EnclosingKeepsInterfaces }
 {}
 
 /// A module with bound names has the interface that it has without them.
-#[tactic(auto, using(crate::proofs::Bound::binding))]
 pub fn binding_keeps_interfaces()
     ensures { BindingKeepsInterfaces }
 {}

@@ -1,19 +1,19 @@
 -- Where two trees are alike in what interfaces look at, they have the same one.
-use Rattle.std.proofs.Common.{◌≡◌, ◌∙◌, ◌⊎◌, inl, inr, ℕ, zero, suc, Bool, true, false, ◌&&◌, ◌||◌, not, cond, List, [], ◌∷◌, ◌++◌, flat_map, map, Option, Some, None, refl, sym, ap, ap₂, slice_get}
+use Rattle.std.proofs.Common.{◌≡◌, ◌∙◌, ℕ, zero, suc, Bool, true, ◌&&◌, ◌||◌, not, List, [], ◌∷◌, ◌++◌, map, Option, Some, None, refl, sym, ap, ap₂, slice_get}
 use Rattle.std.proofs.lemmas.List.{map-append}
 use Rattle.ecma_kind.specs.declared.kind.Kind.{Kind}
 use Rattle.ecma_kind.specs.declared.kind.Kind.TheVariants as kind
 use Rattle.ecma_tree.specs.declared.node.Node.{Node, fold_out-Node, out-Node}
 use Rattle.ecma_tree.specs.Sorted.{is_absent}
-use Rattle.ecma_tree.specs.Values.{holds_ambient, is_function, is_value, is_value_where, value_by, values_in}
+use Rattle.ecma_tree.specs.Values.{holds_ambient, is_function, is_value_where, value_by, values_in}
 use Rattle.ecma_tree.proofs.Valuing.{is_value_where-out, value_where_by}
 use Rattle.ecma_forest.proofs.Induction.{by_children}
-use Rattle.ecma_rules.specs.Children.{has_child, items_at, kind_of}
+use Rattle.ecma_rules.specs.Children.{kind_of}
 use Rattle.ecma_strip.specs.Staying.{is_declared}
 use Rattle.ecma_interface.specs.Interface.{Export}
 use Rattle.ecma_interface.specs.Names.{Id, all_ids, bound_by, bound_names, bound_step}
-use Rattle.ecma_interface.specs.Reading.{by_its_name, said_at, said_by, said_of, variable_at, variable_by, variable_of}
-use Rattle.ecma_interface_laws.proofs.Looking.{Always, All, ByAny, ByFirst, BySecond, First, Nothing, Pick, Second, Value, Wants, WantsValue, bound_is, dull_binds, dull_is_value, dull_not_declared, dull_not_named, dull_not_told, dull_says, dull_there, first_is, is_dull, is_named, is_told, matters, pick, picked, second_is, some_is, told_not_named, unnamed_variable, value_is, value_of, value_wanted, valued, wanted}
+use Rattle.ecma_interface.specs.Reading.{by_its_name, said_by, said_of, variable_by, variable_of}
+use Rattle.ecma_interface_laws.proofs.Looking.{Always, All, ByAny, ByFirst, BySecond, First, Nothing, Pick, Second, Value, Wants, WantsValue, bound_is, dull_binds, dull_is_value, dull_not_declared, dull_not_named, dull_not_told, dull_says, dull_there, is_dull, is_told, matters, pick, picked, told_not_named, unnamed_variable, value_is, value_of, value_wanted, valued, wanted}
 
 abbrev pub children_of : Node → List Node
 children_of n = (out-Node n).children

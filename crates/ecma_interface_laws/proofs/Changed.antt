@@ -1,5 +1,5 @@
 -- What changes every node by itself, and neither what identifiers and texts say nor any other kind, keeps the interface.
-use Rattle.std.proofs.Common.{◌≡◌, ◌∙◌, ℕ, Bool, true, false, not, List, [], ◌∷◌, map, refl, sym, ap, subst}
+use Rattle.std.proofs.Common.{◌≡◌, ◌∙◌, ℕ, suc, Bool, true, false, not, List, [], ◌∷◌, map, refl, sym, ap, subst}
 use Rattle.ecma_kind.specs.declared.kind.Kind.{Kind}
 use Rattle.ecma_kind.specs.declared.kind.Kind.TheVariants as kind
 use Rattle.ecma_kind.specs.declared.shapes.Sort.TheVariants as sort
@@ -87,5 +87,3 @@ module _ (context_of : List ℕ → ℕ → ℕ) where
 
 pub contexts_keep : ContextsKeepInterfaces
 contexts_keep context_of tree sorted = changed_interfaces own_text own_text (λ span. span) (kind_with_context context_of) (contexts_step context_of) tree sorted
-
-pub ruleset changes = (spans_keep, contexts_keep)

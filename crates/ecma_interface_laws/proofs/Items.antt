@@ -18,23 +18,23 @@ module _ {X : Type 0} where
 
   module _ (told again : Node → List X) where
     abbrev Same : Node → Node → Type 0
-    Same a b = ((told a ≡ []) × (again b ≡ [])) ⊎ ((again b ≡ told a) × (stays b ≡ stays a))
+    Same a b = ((told a ≡ []) × (again b ≡ [])) ⊎ ((stays b ≡ stays a) × (stays a ≡ true → again b ≡ told a))
 
     abbrev AllSame : List Node → List Node → Type 0
     AllSame [] [] = Unit {0}
     AllSame (a ∷ ns) (b ∷ ms) = Same a b × AllSame ns ms
     AllSame _ _ = ⊥
 
-    both_told : (s : Bool) (a b : Node) (ns ms : List Node) → again b ≡ told a → flat_map again (filter stays ms) ≡ flat_map told (filter stays ns)
+    both_told : (s : Bool) (a b : Node) (ns ms : List Node) → (s ≡ true → again b ≡ told a) → flat_map again (filter stays ms) ≡ flat_map told (filter stays ns)
         → flat_map again (cond s (b ∷ filter stays ms) (filter stays ms)) ≡ flat_map told (cond s (a ∷ filter stays ns) (filter stays ns))
-    both_told true a b ns ms first rest = ap₂ (λ xs ys. xs ++ ys) first rest
+    both_told true a b ns ms first rest = ap₂ (λ xs ys. xs ++ ys) (first refl) rest
     both_told false a b ns ms first rest = rest
 
     one_told : (a b : Node) (ns ms : List Node) → Same a b → flat_map again (filter stays ms) ≡ flat_map told (filter stays ns)
         → flat_map again (filter stays (b ∷ ms)) ≡ flat_map told (filter stays (a ∷ ns))
     one_told a b ns ms (inl none) rest = none_told again b ms none.1 ∙ rest ∙ sym (none_told told a ns none.0)
     one_told a b ns ms (inr same) rest =
-        ap (λ s. flat_map again (cond s (b ∷ filter stays ms) (filter stays ms))) same.1 ∙ both_told (stays a) a b ns ms same.0 rest
+        ap (λ s. flat_map again (cond s (b ∷ filter stays ms) (filter stays ms))) same.0 ∙ both_told (stays a) a b ns ms same.1 rest
 
     all_told : (ns ms : List Node) → AllSame ns ms → flat_map again (filter stays ms) ≡ flat_map told (filter stays ns)
     all_told [] [] h = refl
@@ -54,9 +54,9 @@ module _ (text other : Id → List ℕ) where
   abbrev pub Tells : Node → Node → Type 0
   Tells a b = (import other b ≡ import text a) × (re_export b ≡ re_export a) × (export other b ≡ export text a)
 
-  -- both tell nothing, or they tell the same and both stay or go
+  -- both tell nothing, or both go, or they stay and tell the same
   abbrev pub SameItem : Node → Node → Type 0
-  SameItem a b = (IsSilent text a × IsSilent other b) ⊎ (Tells a b × (stays b ≡ stays a))
+  SameItem a b = (IsSilent text a × IsSilent other b) ⊎ ((stays b ≡ stays a) × (stays a ≡ true → Tells a b))
 
   abbrev pub SameItems : List Node → List Node → Type 0
   SameItems [] [] = Unit {0}
@@ -65,15 +65,15 @@ module _ (text other : Id → List ℕ) where
 
   imports_of : (a b : Node) → SameItem a b → Same (import text) (import other) a b
   imports_of a b (inl s) = let x : IsSilent text a = s.0 in let y : IsSilent other b = s.1 in inl (x.0, y.0)
-  imports_of a b (inr s) = let t : Tells a b = s.0 in inr (t.0, s.1)
+  imports_of a b (inr s) = inr (s.0, λ e. (let t : Tells a b = s.1 e in t.0))
 
   again_of : (a b : Node) → SameItem a b → Same re_export re_export a b
   again_of a b (inl s) = let x : IsSilent text a = s.0 in let y : IsSilent other b = s.1 in inl (x.1, y.1)
-  again_of a b (inr s) = let t : Tells a b = s.0 in inr (t.1, s.1)
+  again_of a b (inr s) = inr (s.0, λ e. (let t : Tells a b = s.1 e in t.1))
 
   exports_of : (a b : Node) → SameItem a b → Same (export text) (export other) a b
   exports_of a b (inl s) = let x : IsSilent text a = s.0 in let y : IsSilent other b = s.1 in inl (x.2, y.2)
-  exports_of a b (inr s) = let t : Tells a b = s.0 in inr (t.2, s.1)
+  exports_of a b (inr s) = inr (s.0, λ e. (let t : Tells a b = s.1 e in t.2))
 
   all_of : {X : Type 0} (told again : Node → List X) → ((a b : Node) → SameItem a b → Same told again a b) → (ns ms : List Node) → SameItems ns ms → AllSame told again ns ms
   all_of told again of [] [] h = tt

@@ -1,5 +1,5 @@
 -- Where items are alike in what interfaces look at, they tell the same.
-use Rattle.std.proofs.Common.{◌≡◌, ◌∙◌, ◌⊎◌, inl, inr, ℕ, zero, suc, Bool, true, false, ◌&&◌, not, cond, codes, List, [], ◌∷◌, ◌++◌, flat_map, map, length, Option, Some, None, refl, sym, ap, ap₂, subst, slice_get}
+use Rattle.std.proofs.Common.{◌≡◌, ◌∙◌, inl, inr, ℕ, zero, suc, Bool, true, false, ◌&&◌, not, cond, codes, List, [], ◌∷◌, ◌++◌, flat_map, map, length, Option, Some, None, refl, sym, ap, ap₂, subst, slice_get}
 use Rattle.ecma_kind.specs.Sorts.{belongs}
 use Rattle.ecma_kind.specs.declared.kind.Kind.{Kind}
 use Rattle.ecma_kind.specs.declared.kind.Kind.TheVariants as kind
@@ -9,7 +9,7 @@ use Rattle.ecma_kind.specs.declared.shapes.Sort.TheVariants as sort
 use Rattle.ecma_tree.specs.declared.node.Node.{Node, out-Node}
 use Rattle.ecma_tree.specs.declared.node.Node.TheViews.{roll-out-Node}
 use Rattle.ecma_tree.specs.Laws.{HaveShapes}
-use Rattle.ecma_tree.specs.Sorted.{HasShape, HasSort, allows, child_shapes, is_absent, is_list, many, maybe, one}
+use Rattle.ecma_tree.specs.Sorted.{HasShape, HasSort, allows, child_shapes, is_list, many, maybe, one}
 use Rattle.ecma_tree.specs.Values.{is_value}
 use Rattle.ecma_tree.proofs.ShapeLaws.{node_has_shape}
 use Rattle.ecma_rules.specs.Children.{children_of as items_of, has_child, is_present, items_at, kind_of, of_kind}
@@ -17,7 +17,7 @@ use Rattle.ecma_strip.specs.Staying.{if_there, is_ambient, is_declared, is_empty
 use Rattle.ecma_interface.specs.Interface.{AllNames, AsObject, ByName, Export, NameAs, ObjectAs}
 use Rattle.ecma_interface.specs.Names.{Id}
 use Rattle.ecma_interface.specs.Reading.{again, again_by, attribute, attributes_of, bound_at, bound_of, by_its_name, default_of, export_by, export_specifier, export_specifier_by, import_by, import_entry, import_entry_by, interface_of, re_export_by, request_at, said_at, said_of, second_name, variable_at}
-use Rattle.ecma_interface_laws.proofs.Alike.{Alike, Related, RelatedAt, Step, Told, children_of, declared_step, dull, named, quoted, related_at, said_there, same, shown_same, there_step, told_step, value_same, variable_there}
+use Rattle.ecma_interface_laws.proofs.Alike.{Alike, Related, RelatedAt, Step, children_of, declared_step, dull, named, quoted, related_at, said_there, same, shown_same, there_step, told_step, value_same, variable_there}
 use Rattle.ecma_interface_laws.proofs.Items.{IsSilent, SameItem, SameItems, Tells, interface_same}
 use Rattle.ecma_interface_laws.proofs.Looking.{dull_not_named, dull_not_told, is_dull, is_named, is_told, matters}
 
@@ -532,7 +532,7 @@ module _ (text other : Id → List ℕ) (R : Node → Node → Type 0) (alike : 
       by : (i : Bool) → is_item (kind_of a) ≡ i → SameItem text other a b
       by true i =
           let t = told_step text other R (alike a b r) (item_told (kind_of a) i) in
-          inr (telling a b s t.0 i t.1, items_stay a b t.0 i (value_same text other R alike a b r true) (first_same a b t.1))
+          inr (items_stay a b t.0 i (value_same text other R alike a b r true) (first_same a b t.1), λ e. telling a b s t.0 i t.1)
       by false i = inl (silent text a i, silent other b (item_step (alike a b r) ∙ i))
 
   all_items : (m : ℕ → Bool) → ((i : ℕ) → m i ≡ true) → (cs ds : List Node) → Related R m cs ds → ((i : ℕ) (c : Node) → slice_get cs i ≡ Some c → IsShaped c) → SameItems text other cs ds

@@ -6,13 +6,11 @@
 ghost use Rattle.ecma_interface_laws.specs.Laws.{ContextsKeepInterfaces, SpansKeepInterfaces};
 
 /// Without its spans a module has the same interface.
-#[tactic(auto, using(crate::proofs::Changed::changes))]
 pub fn spans_keep_interfaces()
     ensures { SpansKeepInterfaces }
 {}
 
 /// With other contexts it has the same by the texts of its names.
-#[tactic(auto, using(crate::proofs::Changed::changes))]
 pub fn contexts_keep_interfaces()
     ensures { ContextsKeepInterfaces }
 {}

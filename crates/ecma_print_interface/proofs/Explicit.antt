@@ -148,5 +148,3 @@ module _ (text : Id → List ℕ) where
 
 pub parentheses_keep : ParenthesesKeepInterfaces
 parentheses_keep text tree sorted = alike_interfaces text text Stands (alike text) tree (explicit tree) sorted (free 0, free_calm 0 refl, refl)
-
-pub ruleset parentheses = (parentheses_keep)

@@ -6,7 +6,6 @@
 ghost use Rattle.ecma_print_interface.specs.Laws.{ParenthesesKeepInterfaces};
 
 /// A module in which each pair of parentheses of its layout is a node has the interface that it has without them.
-#[tactic(auto, using(crate::proofs::Explicit::parentheses))]
 pub fn parentheses_keep_interfaces()
     ensures { ParenthesesKeepInterfaces }
 {}

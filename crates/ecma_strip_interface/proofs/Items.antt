@@ -6,7 +6,7 @@ use Rattle.ecma_kind.specs.declared.kind.Kind.TheVariants as kind
 use Rattle.ecma_kind.specs.declared.shapes.Shape.{Shape}
 use Rattle.ecma_kind.specs.declared.shapes.Sort.{Sort}
 use Rattle.ecma_kind.specs.declared.shapes.Sort.TheVariants as sort
-use Rattle.ecma_tree.specs.declared.node.Node.{Node, Node-F}
+use Rattle.ecma_tree.specs.declared.node.Node.{Node}
 use Rattle.ecma_tree.specs.Sorted.{HasShape, allows, is_list, many, maybe, one}
 use Rattle.ecma_tree.specs.Values.{is_value, is_value_where, value_by, values_in}
 use Rattle.ecma_tree.proofs.Valuing.{is_value-out}
@@ -14,7 +14,7 @@ use Rattle.ecma_rules.specs.Children.{children_of as items_of, has_child, holds_
 use Rattle.ecma_fits.specs.declared.unfit.Where.{Where}
 use Rattle.ecma_fits.specs.Fitting.{where_in}
 use Rattle.ecma_fits.specs.Counts.{are_exports, are_imports, has_attributes_at, holds_attributes, is_full_by}
-use Rattle.ecma_strip.specs.Staying.{if_there, is_ambient, is_declared, is_empty_stmt, is_this, is_this_by, is_this_param, is_this_param_by, member_stays_by, specifier_stays, stays}
+use Rattle.ecma_strip.specs.Staying.{if_there, is_ambient, is_declared, is_empty_stmt, is_this, is_this_by, is_this_param_by, member_stays_by, specifier_stays, stays}
 use Rattle.ecma_strip.specs.Stripping.{plain_children, plain_kind, stripped}
 use Rattle.ecma_strip_fits.proofs.Classes.{class_of}
 use Rattle.ecma_strip_fits.proofs.Classes.Class.{Usual}
@@ -236,7 +236,7 @@ item_plain (kind.ExportAll t) i = record { class = refl; same = refl; children =
 item_plain (kind.TsImportEqualsDecl e t) i = record { class = refl; same = refl; children = λ cs. refl }
 item_plain _ i = cc
 
-declaration_usual : (k : Kind) → belongs sort.Decl k ≡ true → class_of k ≡ Usual
+pub declaration_usual : (k : Kind) → belongs sort.Decl k ≡ true → class_of k ≡ Usual
 unfolding class_of
 declaration_usual (kind.ClassDecl d) b = refl
 declaration_usual (kind.FnDecl d) b = refl

@@ -1,13 +1,13 @@
 -- What is said, bound and named by the parts of imports and exports stays when types go.
-use Rattle.std.proofs.Common.{◌≡◌, ◌∙◌, ◌||◌, ◌&&◌, ℕ, zero, suc, Bool, true, false, cond, get_or, List, [], ◌∷◌, filter, length, map, Some, refl, sym, ap, ap₂, subst, slice_get}
+use Rattle.std.proofs.Common.{◌≡◌, ◌∙◌, ◌||◌, ◌&&◌, ℕ, zero, suc, Bool, true, false, cond, get_or, List, [], ◌∷◌, filter, length, map, Some, refl, ap, ap₂, subst, slice_get}
 use Rattle.std.specs.List.{list_all}
 use Rattle.ecma_kind.specs.Sorts.{belongs}
 use Rattle.ecma_kind.specs.declared.kind.Kind.{Kind}
 use Rattle.ecma_kind.specs.declared.kind.Kind.TheVariants as kind
 use Rattle.ecma_kind.specs.declared.shapes.Sort.TheVariants as sort
-use Rattle.ecma_tree.specs.declared.node.Node.{Node, Node-F, out-Node}
+use Rattle.ecma_tree.specs.declared.node.Node.{Node, Node-F}
 use Rattle.ecma_tree.specs.Laws.{HaveShapes}
-use Rattle.ecma_tree.specs.Sorted.{HasShape, child_shapes, is_absent, is_list, many, maybe, one}
+use Rattle.ecma_tree.specs.Sorted.{HasShape, child_shapes, is_absent, is_list, many, maybe}
 use Rattle.ecma_rules.specs.Children.{children_of as items_of, child_is, is_present, items_at, kind_of, of_kind}
 use Rattle.ecma_rules.specs.Targets.{is_key_value}
 use Rattle.ecma_fits.specs.Counts.{holds_attributes, is_attribute, is_attribute_key, is_text}

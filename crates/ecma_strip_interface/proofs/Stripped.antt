@@ -17,6 +17,7 @@ use Rattle.ecma_strip.specs.Staying.{is_empty_stmt, stays}
 use Rattle.ecma_strip.specs.Stripping.{changed_at, plain_children, plain_kind, stripped, without_empty}
 use Rattle.ecma_strip_fits.proofs.Classes.{class_of}
 use Rattle.ecma_strip_fits.proofs.Classes.Class.{Usual}
+use Rattle.ecma_strip_fits.proofs.Lists.{filter_at, filter_passes, map_at}
 use Rattle.ecma_strip_fits.proofs.Strays.{not_failing}
 use Rattle.ecma_strip_fits.proofs.Walk.{listed_parts, usual_children, usual_kind}
 use Rattle.ecma_bind_fits.proofs.Bound.{parts_none}
@@ -27,7 +28,7 @@ use Rattle.ecma_interface_laws.proofs.Alike.{children_of}
 use Rattle.ecma_interface_laws.proofs.Items.{IsSilent, Tells, made_of, none_told}
 use Rattle.ecma_interface_laws.proofs.Telling.{Shapes, child_shaped, is_item, list_shaped, listed_shaped, shapes_of, silent}
 use Rattle.ecma_strip_interface.specs.Laws.{StrippingKeepsInterfaces}
-use Rattle.ecma_strip_interface.proofs.Items.{item_full, item_remains, item_tells}
+use Rattle.ecma_strip_interface.proofs.Items.{declaration_usual, item_full, item_remains, item_tells}
 use Rattle.ecma_strip_interface.proofs.Patterns.{Stands, stands_below}
 
 -- ---- what is told of the items that stay
@@ -115,6 +116,20 @@ plain_item (kind.PrivateMethod k m) b f = cc
 plain_item (kind.ClassProp m r d e) b f = cc
 plain_item (kind.PrivateProp m r d e) b f = cc
 plain_item _ b f = f
+
+lowered_plain : (k : Kind) → is_lowered (plain_kind k) ≡ is_lowered k
+unfolding plain_kind
+lowered_plain (kind.Ident s c o) = refl
+lowered_plain _ = refl
+
+plain_export : (k : Kind) → plain_kind k ≡ kind.ExportDecl → k ≡ kind.ExportDecl
+unfolding plain_kind
+plain_export kind.ExportDecl e = refl
+plain_export _ e = cc
+
+export_children : (x : Node) → kind_of x ≡ kind.ExportDecl → children_of (stripped x) ≡ map stripped (children_of x)
+unfolding class_of plain_children
+export_children x e = usual_children x (ap class_of e) ∙ ap (λ k. plain_children k (map stripped (children_of x))) e
 
 stripped_item : (n : Node) → HasShape (one sort.ModuleItem) n → is_item (kind_of n) ≡ false → is_item (kind_of (stripped n)) ≡ false
 stripped_item n h i = by (kind_of n) refl (shapes_of n (one sort.ModuleItem) h).0 i
@@ -244,7 +259,44 @@ module _ (text : Id → List ℕ) (tree : Node) (fits : Fits tree) (alone : adds
       let exports = left_as (export text) ∙ all_told (export text) ns (λ i x at stay. exports_of text x (all i x at stay)) in
       λ j. made_of (imports j) (again j) (exports j)
 
+  -- ---- what is left is not lowered
+
+  -- an item that is left was one that stays
+  item_before : (o : Option Node) → slice_get (children_of tree) 0 ≡ o → (i : ℕ) (y : Node) → slice_get (filter is_full (map stripped (filter stays (items_of o)))) i ≡ Some y
+      → (x : Node) × (stripped x ≡ y) × (HasShape (one sort.ModuleItem) x) × (adds_types_alone x ≡ true)
+  item_before None there i y at = cc
+  item_before (Some l) there i y at =
+      let a = filter_at is_full (map stripped (filter stays (children_of l))) i y at in
+      let b = map_at stripped (filter stays (children_of l)) a.0 y a.1 in
+      let c = filter_at stays (children_of l) a.0 b.0 b.1 in
+      let stay = filter_passes stays (children_of l) a.0 b.0 b.1 in
+      (b.0, b.2, shaped l there c.0 b.0 c.1 stay, native l there c.0 b.0 c.1 stay)
+
+  abbrev pub IsNative : Node → Type 0
+  IsNative y = (is_lowered (kind_of y) ≡ false) × ((d : Node) → slice_get (children_of y) 0 ≡ Some d → kind_of y ≡ kind.ExportDecl → is_lowered (kind_of d) ≡ false)
+
+  native_after : (x y : Node) → stripped x ≡ y → HasShape (one sort.ModuleItem) x → adds_types_alone x ≡ true → IsNative y
+  native_after x y is h a = subst IsNative is (own, declared)
+    where
+      kinds : kind_of (stripped x) ≡ plain_kind (kind_of x)
+      kinds = usual_kind x (item_usual (kind_of x) (shapes_of x (one sort.ModuleItem) h).0)
+
+      own : is_lowered (kind_of (stripped x)) ≡ false
+      own = ap is_lowered kinds ∙ lowered_plain (kind_of x) ∙ (alone_parts x a).0
+
+      declared : (d : Node) → slice_get (children_of (stripped x)) 0 ≡ Some d → kind_of (stripped x) ≡ kind.ExportDecl → is_lowered (kind_of d) ≡ false
+      declared d at e =
+          let k = plain_export (kind_of x) (sym kinds ∙ e) in
+          let cs : children_of (stripped x) ≡ map stripped (children_of x) = export_children x k in
+          let b = map_at stripped (children_of x) 0 d (ap (λ (z : List Node). slice_get z 0) (sym cs) ∙ at) in
+          let shape = child_shaped x (one sort.ModuleItem, h) kind.ExportDecl k 0 (one sort.Decl) (λ s n. refl) b.0 b.1 in
+          ap (λ z. is_lowered (kind_of z)) (sym b.2)
+          ∙ ap is_lowered (usual_kind b.0 (declaration_usual (kind_of b.0) (shapes_of b.0 (one sort.Decl) shape).0)) ∙ lowered_plain (kind_of b.0) ∙ (alone_parts b.0 (alone_below x a (ap is_list k) 0 b.0 b.1)).0
+
+  pub left_native : (i : ℕ) (y : Node) → slice_get (items_at (stripped tree) 0) i ≡ Some y → IsNative y
+  left_native i y at =
+      let t = item_before (slice_get (children_of tree) 0) refl i y (ap (λ (z : List Node). slice_get z i) (sym stripped_items) ∙ at) in
+      native_after t.0 y t.1 t.2 t.3
+
 pub stripping_keeps : StrippingKeepsInterfaces
 stripping_keeps text tree fits alone = same text tree fits alone
-
-pub ruleset stripping = (stripping_keeps)

@@ -6,7 +6,6 @@
 ghost use Rattle.ecma_strip_interface.specs.Laws.{StrippingKeepsInterfaces};
 
 /// Without its types a module has the interface that it has with them.
-#[tactic(auto, using(crate::proofs::Stripped::stripping))]
 pub fn stripping_keeps_interfaces()
     ensures { StrippingKeepsInterfaces }
 {}
