@@ -47,13 +47,13 @@ module _ (unresolved top : ℕ) where
         scopes = cond (opens_same p.role r j && covers p.role (kind_same r j) i) (p.scopes ++ record { ctxt = cond (is_root p.role) top l; states = stated (names_same p.role (innermost p.scopes) r j) } ∷ []) p.scopes;
       }
 
-  all_placed : {ns ms : List Node} → All ns ms → (f g : ℕ → Place) → ((i : ℕ) → g i ≡ f i) → (m : ℕ → Bool) (i l : ℕ) → Related Resolves m (placed f i ns (map at ns) l) (placed g i ms (map at ms) l)
-  all_placed none f g same m i l = tt
-  all_placed (more {n} {b} {ns} {ms} r all) f g same m i l =
-      let count : context_count b (g i).role ≡ context_count n (f i).role = ap (λ (q : Place). context_count b q.role) (same i) ∙ count_same r (f i).role in
-      let rest = all_placed all f g same (λ j. m (suc j)) (suc i) (l - context_count n (f i).role) in (
-        (λ e. (n, b, f i, l, r, refl, ap (λ q. at b q l) (sym (same i)))),
-        subst (λ z. Related Resolves (λ j. m (suc j)) (placed f (suc i) ns (map at ns) (l - context_count n (f i).role)) (placed g (suc i) ms (map at ms) (l - z))) (sym count) rest,
+  all_placed : {ns ms : List Node} → All ns ms → (f g : ℕ → Place) → ((i : ℕ) → g i ≡ f i) → (asks : ℕ → Bool) (i l : ℕ) → Related Resolves asks (placed f i ns (map at ns) l) (placed g i ms (map at ms) l)
+  all_placed none f g same asks i l = tt
+  all_placed (more {n} {m} {ns} {ms} r all) f g same asks i l =
+      let count : context_count m (g i).role ≡ context_count n (f i).role = ap (λ (q : Place). context_count m q.role) (same i) ∙ count_same r (f i).role in
+      let others = all_placed all f g same (λ j. asks (suc j)) (suc i) (l - context_count n (f i).role) in (
+        (λ e. (n, m, f i, l, r, refl, ap (λ q. at m q l) (sym (same i)))),
+        subst (λ z. Related Resolves (λ j. asks (suc j)) (placed f (suc i) ns (map at ns) (l - context_count n (f i).role)) (placed g (suc i) ms (map at ms) (l - z))) (sym count) others,
       )
 
   none_placed : {ns ms : List Node} → All ns ms → (f g : ℕ → Place) (i l h : ℕ) → placed f i ns (map at ns) l ≡ [] → placed g i ms (map at ms) h ≡ []

@@ -92,8 +92,9 @@ module _ (texts : Texts) where
   list_as l e = bound_as l kind.List (children_of l) e refl
 
   mutual
-    pub pattern_kept : {n : Node} → Pattern n → KeepTexts texts (bound_names n) → (stands : Standing) → bound_names (become texts n stands) ≡ bound_names n
     unfolding bound_by is_touched shared_by
+
+    pub pattern_kept : {n : Node} → Pattern n → KeepTexts texts (bound_names n) → (stands : Standing) → bound_names (become texts n stands) ≡ bound_names n
     pattern_kept {n} (hole e) k stands = become_as n kind.Absent (children_of n) e refl refl stands ∙ sym (bound_as n kind.Absent (children_of n) e refl)
     pattern_kept (name x) k stands = name_bound x k stands
     pattern_kept {n} (array l t o e is list all) k stands =
@@ -183,7 +184,7 @@ module _ (texts : Texts) where
   ident_lone (kind.Ident s c o) b = refl
   ident_lone _ b = cc
 
-  is_named_by : Kind → Bool
+  abbrev is_named_by : Kind → Bool
   is_named_by (kind.FnDecl declare) = true
   is_named_by (kind.ClassDecl declare) = true
   is_named_by (kind.TsEnumDecl declare is_const) = true

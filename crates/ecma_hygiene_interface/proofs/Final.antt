@@ -295,29 +295,26 @@ module _ (texts : Texts) (x : Node) (w : Where) (stands : Standing) (shaped : Ha
   telling_by kept (kind.NamedExport true) e i = (refl, refl, refl)
   telling_by kept (kind.NamedExport false) e i = named (has_child x 1) refl
     where
-      k : Kind
-      k = kind.NamedExport false
-
       u : UntouchedAt texts (children_of x) 1
-      u = untouched_at k e 1 (maybe sort.Str) (λ s n. refl) maybe_text_untouched
+      u = untouched_at (kind.NamedExport false) e 1 (maybe sort.Str) (λ s n. refl) maybe_text_untouched
 
       has : has_child y 1 ≡ has_child x 1
-      has = ap (λ (z : List Node). of_kind is_present (slice_get z 1)) (children_kept k e refl) ∙ present_kept texts (children_of x) 1 u (standing_in stands x) 0
+      has = ap (λ (z : List Node). of_kind is_present (slice_get z 1)) (children_kept (kind.NamedExport false) e refl) ∙ present_kept texts (children_of x) 1 u (standing_in stands x) 0
 
       sourced : (b : Bool) → has_child x 1 ≡ b → role_in stands.role x 0 ≡ of_exports b 0
       sourced b s = ap (λ z. role_by stands.role z (is_there (children_of x) 1) 0) e ∙ ap (λ z. of_exports z 0) (there_present (slice_get (children_of x) 1) ∙ s)
 
-      named : (b : Bool) → has_child x 1 ≡ b → TellsBy k
+      named : (b : Bool) → has_child x 1 ≡ b → TellsBy (kind.NamedExport false)
       named true s =
-          let entries = specifiers sort.ExportSpecifier k e refl (λ z n. refl) role.Sourced (ap passes_in_list (sourced true s)) again again (again_become texts) in
-          let source = said k e refl 1 u in
-          let with = attributes k e refl 2 (λ z n. refl) (and-right (are_exports (has_child x 1) (has_child x 2) (items_at x 0)) (has_attributes_at 2 x) (full_as k e)) in (
+          let entries = specifiers sort.ExportSpecifier (kind.NamedExport false) e refl (λ z n. refl) role.Sourced (ap passes_in_list (sourced true s)) again again (again_become texts) in
+          let source = said (kind.NamedExport false) e refl 1 u in
+          let with = attributes (kind.NamedExport false) e refl 2 (λ z n. refl) (and-right (are_exports (has_child x 1) (has_child x 2) (items_at x 0)) (has_attributes_at 2 x) (full_as (kind.NamedExport false) e)) in (
             refl,
             (λ j. cond (has j) (record { request = record { source = source j; attributes = with j }; entries = entries j } ∷ []) []),
             ap (λ z. cond z [] (flat_map (export_specifier own_text) (items_at y 0))) (has ∙ s) ∙ sym (ap (λ z. cond z [] (flat_map (export_specifier text) (items_at x 0))) s),
           )
       named false s =
-          let own = specifiers sort.ExportSpecifier k e refl (λ z n. refl) role.Plain (ap passes_in_list (sourced false s)) (export_specifier text) (export_specifier own_text) (export_become texts) in
+          let own = specifiers sort.ExportSpecifier (kind.NamedExport false) e refl (λ z n. refl) role.Plain (ap passes_in_list (sourced false s)) (export_specifier text) (export_specifier own_text) (export_become texts) in
           let told : Node → List ReExport = λ n. record { request = request_at n 1 2; entries = flat_map again (items_at n 0) } ∷ [] in
           (refl, ap (λ z. cond z (told y) []) (has ∙ s) ∙ sym (ap (λ z. cond z (told x) []) s), (λ j. cond (has j) [] (own j)))
   telling_by kept kind.ExportDefaultDecl e i =

@@ -94,9 +94,6 @@ module _ (texts : Texts) where
   said_two s span c o None a b e h = ap (λ z. cond (not z) (said_by (kind_of b)) (said_by (kind_of a))) h ∙ ap said_by e
   said_two s span c o (Some t) a b e h = by (bytes_eq t s) refl
     where
-      name : Node
-      name = name_of (record { text = s; span = span })
-
       by : (q : Bool) → bytes_eq t s ≡ q → second_in (two_or (cond q None (Some (record { text = s; span = span }))) a b) ≡ s
       by true q = ap (λ z. cond (not z) (said_by (kind_of b)) (said_by (kind_of a))) h ∙ ap said_by e ∙ (bytes_eq-Decides t s).0 q
       by false q = ap (λ k. cond (is_present k) (said_by k) (said_by (kind_of a))) (kind-of span (kind.Ident s 0 false) [])

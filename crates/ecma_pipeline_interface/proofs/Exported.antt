@@ -82,8 +82,9 @@ joined_names : (n : Node) (ns : List Node) → as_names (meaning n).names ≡ bo
 joined_names n ns first others = map-append as_name (meaning n).names (all_names (map meaning ns)) ∙ ap₂ (λ xs ys. xs ++ ys) first others
 
 mutual
-  pattern_names : {n : Node} → Pattern n → as_names (meaning n).names ≡ bound_names n
   unfolding bound_by
+
+  pattern_names : {n : Node} → Pattern n → as_names (meaning n).names ≡ bound_names n
   pattern_names {n} (hole e) = ap (λ m. as_names m.names) (meaning_as n kind.Absent (children_of n) e refl) ∙ sym (bound_as n kind.Absent (children_of n) e refl)
   pattern_names (name x) = name_names x
   pattern_names {n} (array l t o e is list all) =
@@ -257,18 +258,17 @@ module _ (texts : Texts) where
   all_own [] h = tt
   all_own (id ∷ ids) h = (All-head Own id ids h, all_own ids (All-tail Own id ids h))
 
-  among : (ns : List Node) → KeepTexts texts (as_names (export_names (all_exports (map meaning ns) None))) → (i : ℕ) (y : Node) → slice_get ns i ≡ Some y → KeepTexts texts (as_names (export_names ((meaning y).exports None)))
-  among [] k i y at = cc
-  among (n ∷ ns) k i y at =
+  parted : (n : Node) (ns : List Node) → KeepTexts texts (as_names (export_names (all_exports (map meaning (n ∷ ns)) None)))
+      → KeepTexts texts (as_names (export_names ((meaning n).exports None))) × KeepTexts texts (as_names (export_names (all_exports (map meaning ns) None)))
+  parted n ns k =
       let first = (meaning n).exports None in
       let others = all_exports (map meaning ns) None in
-      let both = split_kept texts (as_names (export_names first)) (as_names (export_names others)) (subst (KeepTexts texts) (ap as_names (export_append first others) ∙ map-append as_name (export_names first) (export_names others)) k) in
-      by i at both.0 both.1
-    where
-      by : (i : ℕ) → slice_get (n ∷ ns) i ≡ Some y → KeepTexts texts (as_names (export_names ((meaning n).exports None))) → KeepTexts texts (as_names (export_names (all_exports (map meaning ns) None)))
-          → KeepTexts texts (as_names (export_names ((meaning y).exports None)))
-      by zero at h t = let same_node : n ≡ y = cc in subst (λ z. KeepTexts texts (as_names (export_names ((meaning z).exports None)))) same_node h
-      by (suc i) at h t = among ns t i y at
+      split_kept texts (as_names (export_names first)) (as_names (export_names others)) (subst (KeepTexts texts) (ap as_names (export_append first others) ∙ map-append as_name (export_names first) (export_names others)) k)
+
+  among : (ns : List Node) → KeepTexts texts (as_names (export_names (all_exports (map meaning ns) None))) → (i : ℕ) (y : Node) → slice_get ns i ≡ Some y → KeepTexts texts (as_names (export_names ((meaning y).exports None)))
+  among [] k i y at = cc
+  among (n ∷ ns) k zero y at = let same_node : n ≡ y = cc in subst (λ z. KeepTexts texts (as_names (export_names ((meaning z).exports None)))) same_node (parted n ns k).0
+  among (n ∷ ns) k (suc i) y at = among ns (parted n ns k).1 i y at
 
   module _ (left : Node) (fits : Fits left) (kept : All Own (export_names (exports_in left))) where
     module_of : (k : Kind) → kind_of left ≡ k → belongs sort.Module k ≡ true → (l : Node) × (children_of left ≡ l ∷ []) × HasShape (many sort.ModuleItem) l × (exports_in left ≡ (meaning l).exports None)

@@ -15,11 +15,11 @@ use Rattle.ecma_strip.specs.Staying.{if_there, is_ambient, is_empty_stmt, is_thi
 use Rattle.ecma_strip.specs.Stripping.{plain_children, plain_kind, stripped}
 use Rattle.ecma_strip_fits.proofs.Classes.{class_of}
 use Rattle.ecma_strip_fits.proofs.Classes.Class.{Usual}
-use Rattle.ecma_strip_fits.proofs.StaysAll.{calm_stays, declarators_calm, is_calm}
 use Rattle.ecma_strip_fits.proofs.Walk.{listed_parts, usual_children, usual_kind}
 use Rattle.ecma_interface.specs.Names.{Id, all_ids, bound_by, bound_names}
 use Rattle.ecma_interface_laws.proofs.Alike.{bound-out, children_of}
 use Rattle.ecma_interface_laws.proofs.Telling.{child_shaped, list_shaped, listed_shaped, shapes_of}
+use Rattle.ecma_strip_interface.proofs.Kept.{is_part, part_stays}
 use Rattle.ecma_strip_interface.proofs.Patterns.{Name, Pattern, Patterns, Stands, array, assign, hole, is_declaring, more, name, none, object, pattern_of, property, rest, shorthand, stands_below}
 
 -- the names that a node of this kind with these children binds
@@ -49,19 +49,15 @@ name_stays {n} x =
     let specifier = ap specifier_stays e in
     λ j. ((item j && member j) && specifier j) && not (param j)
 
-calm_kinds : (is_calm kind.Absent ≡ true) × ((o : Bool) → is_calm (kind.ArrayPat o) ≡ true) × ((o : Bool) → is_calm (kind.ObjectPat o) ≡ true) × (is_calm kind.RestPat ≡ true) × (is_calm kind.AssignPat ≡ true) × (is_calm kind.KeyValuePatProp ≡ true) × (is_calm kind.AssignPatProp ≡ true)
-unfolding is_calm
-calm_kinds = (refl, (λ o. refl), (λ o. refl), refl, refl, refl, refl)
-
 pattern_stays : {n : Node} → Pattern n → stays n ≡ true
-pattern_stays {n} (hole e) = calm_stays n (ap is_calm e ∙ calm_kinds.0)
+pattern_stays {n} (hole e) = part_stays n (ap is_part e)
 pattern_stays (name x) = name_stays x
-pattern_stays {n} (array l t o e is list all) = calm_stays n (ap is_calm e ∙ calm_kinds.1 o)
-pattern_stays {n} (object l t o e is list all) = calm_stays n (ap is_calm e ∙ calm_kinds.2 o)
-pattern_stays {n} (rest p t e is q) = calm_stays n (ap is_calm e ∙ calm_kinds.3)
-pattern_stays {n} (assign p v e is q) = calm_stays n (ap is_calm e ∙ calm_kinds.4)
-pattern_stays {n} (property key p e is q) = calm_stays n (ap is_calm e ∙ calm_kinds.5)
-pattern_stays {n} (shorthand p v e is x) = calm_stays n (ap is_calm e ∙ calm_kinds.6)
+pattern_stays {n} (array l t o e is list all) = part_stays n (ap is_part e)
+pattern_stays {n} (object l t o e is list all) = part_stays n (ap is_part e)
+pattern_stays {n} (rest p t e is q) = part_stays n (ap is_part e)
+pattern_stays {n} (assign p v e is q) = part_stays n (ap is_part e)
+pattern_stays {n} (property key p e is q) = part_stays n (ap is_part e)
+pattern_stays {n} (shorthand p v e is x) = part_stays n (ap is_part e)
 
 patterns_stay : {ns : List Node} → Patterns ns → filter stays ns ≡ ns
 patterns_stay none = refl
@@ -90,8 +86,9 @@ list_bound l e all same =
     ∙ sym (bound_as l kind.List (children_of l) e refl)
 
 mutual
-  pub pattern_bound : {n : Node} → Pattern n → bound_names (stripped n) ≡ bound_names n
   unfolding class_of plain_kind plain_children bound_by
+
+  pub pattern_bound : {n : Node} → Pattern n → bound_names (stripped n) ≡ bound_names n
   pattern_bound {n} (hole e) = stripped_as n kind.Absent (children_of n) e refl refl ∙ sym (bound_as n kind.Absent (children_of n) e refl)
   pattern_bound (name x) = name_bound x
   pattern_bound {n} (array l t o e is list all) =
@@ -167,13 +164,17 @@ declarator_bound v w h stands = by (kind_of v) refl (shapes_of v (one sort.VarDe
         (ap (λ z. is_declaring (role_in w.role z 0)) e)))
     by _ e b = cc
 
+declarator_part : (k : Kind) → belongs sort.VarDeclarator k ≡ true → is_part k ≡ true
+declarator_part (kind.VarDeclarator definite) b = refl
+declarator_part _ b = cc
+
 declarators_bound : (vs : List Node) (around : ℕ → Where) → ((i : ℕ) (v : Node) → slice_get vs i ≡ Some v → HasShape (one sort.VarDeclarator) v × Stands v (around i))
     → (filter stays vs ≡ vs) × (all_ids (map bound_names (map stripped vs)) ≡ all_ids (map bound_names vs))
 declarators_bound [] around h = (refl, refl)
 declarators_bound (v ∷ vs) around h =
     let t = h 0 v refl in
     let others = declarators_bound vs (λ i. around (suc i)) (λ i x at. h (suc i) x at) in
-    let stay = calm_stays v (declarators_calm (kind_of v) (shapes_of v (one sort.VarDeclarator) t.0).0) in
+    let stay = part_stays v (declarator_part (kind_of v) (shapes_of v (one sort.VarDeclarator) t.0).0) in
     (ap (λ b. cond b (v ∷ filter stays vs) (filter stays vs)) stay ∙ ap (λ (z : List Node). v ∷ z) others.0, ap₂ (λ xs ys. xs ++ ys) (declarator_bound v (around 0) t.0 t.1) others.1)
 
 pub declaration_bound : (d : Node) (w : Where) → HasShape (one sort.Decl) d → Stands d w → bound_names (stripped d) ≡ bound_names d

@@ -25,7 +25,7 @@ use Rattle.ecma_interface.specs.Names.{Id, bound_names}
 use Rattle.ecma_interface.specs.Reading.{again, again_by, attributes_of, bound_at, bound_of, by_its_name, default_of, export_by, export_specifier, export_specifier_by, import_by, import_entry, import_entry_by, re_export_by, said_at, said_of, second_name, variable_at, variable_of}
 use Rattle.ecma_interface_laws.proofs.Alike.{children_of}
 use Rattle.ecma_interface_laws.proofs.Items.{Tells}
-use Rattle.ecma_interface_laws.proofs.Telling.{Shapes, child_shaped, is_item, is_specifier, items_stay, list_shaped, listed_shaped, shapes_of}
+use Rattle.ecma_interface_laws.proofs.Telling.{Shapes, child_shaped, is_item, items_stay, list_shaped, listed_shaped, shapes_of}
 use Rattle.ecma_strip_interface.proofs.Binding.{declaration_bound, default_bound}
 use Rattle.ecma_strip_interface.proofs.Kept.{UsualAt, attributes_at, declared_plain, first_left, got_kept, ident_usual, maybe_name_usual, maybe_text_usual, name_usual, present_kept, said_kept, text_usual, variable_kept}
 use Rattle.ecma_strip_interface.proofs.Patterns.{Stands, stands_below}
@@ -44,6 +44,14 @@ children_kept : (n : Node) (k : Kind) → Plain k → kind_of n ≡ k → childr
 children_kept n k p e = usual_children n (ap class_of e ∙ p.class) ∙ ap (λ z. plain_children z (map stripped (children_of n))) e ∙ p.children (map stripped (children_of n))
 
 -- ---- specifiers
+
+abbrev is_specifier : Kind → Bool
+is_specifier kind.ImportDefaultSpecifier = true
+is_specifier kind.ImportStarAsSpecifier = true
+is_specifier (kind.ImportNamedSpecifier is_type_only) = true
+is_specifier kind.ExportNamespaceSpecifier = true
+is_specifier (kind.ExportNamedSpecifier is_type_only) = true
+is_specifier _ = false
 
 specifier_plain : (k : Kind) → is_specifier k ≡ true → Plain k
 unfolding class_of plain_kind plain_children

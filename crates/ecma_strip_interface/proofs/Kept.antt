@@ -1,5 +1,5 @@
 -- What is said, bound and named by the parts of imports and exports stays when types go.
-use Rattle.std.proofs.Common.{◌≡◌, ◌∙◌, ◌||◌, ◌&&◌, ℕ, zero, suc, Bool, true, false, cond, get_or, List, [], ◌∷◌, filter, length, map, Some, refl, ap, ap₂, subst, slice_get}
+use Rattle.std.proofs.Common.{◌≡◌, ◌∙◌, ◌||◌, ◌&&◌, not, ℕ, zero, suc, Bool, true, false, cond, get_or, List, [], ◌∷◌, filter, length, map, Some, refl, ap, ap₂, subst, slice_get}
 use Rattle.std.specs.List.{list_all}
 use Rattle.ecma_kind.specs.Sorts.{belongs}
 use Rattle.ecma_kind.specs.declared.kind.Kind.{Kind}
@@ -8,14 +8,14 @@ use Rattle.ecma_kind.specs.declared.shapes.Sort.TheVariants as sort
 use Rattle.ecma_tree.specs.declared.node.Node.{Node, Node-F}
 use Rattle.ecma_tree.specs.Laws.{HaveShapes}
 use Rattle.ecma_tree.specs.Sorted.{HasShape, child_shapes, is_absent, is_list, many, maybe}
+use Rattle.ecma_tree.specs.Values.{is_value}
 use Rattle.ecma_rules.specs.Children.{children_of as items_of, child_is, is_present, items_at, kind_of, of_kind}
 use Rattle.ecma_rules.specs.Targets.{is_key_value}
 use Rattle.ecma_fits.specs.Counts.{holds_attributes, is_attribute, is_attribute_key, is_text}
-use Rattle.ecma_strip.specs.Staying.{is_declared, stays}
+use Rattle.ecma_strip.specs.Staying.{is_ambient, is_declared, is_empty_stmt, is_this, is_this_by, is_this_param_by, member_stays_by, specifier_stays, stays}
 use Rattle.ecma_strip.specs.Stripping.{plain_children, plain_kind, stripped}
 use Rattle.ecma_strip_fits.proofs.Classes.{class_of}
 use Rattle.ecma_strip_fits.proofs.Classes.Class.{Usual}
-use Rattle.ecma_strip_fits.proofs.StaysAll.{calm_stays, is_calm}
 use Rattle.ecma_strip_fits.proofs.Walk.{listed_parts, usual_children, usual_kind}
 use Rattle.ecma_interface.specs.Names.{Id}
 use Rattle.ecma_interface.specs.Reading.{attribute, attributes_of, said_by, said_of, variable_by, variable_of}
@@ -115,6 +115,73 @@ unfolding class_of
 value_usual (kind.Str value raw) b = refl
 value_usual _ b = cc
 
+-- ---- parts of which none goes from a list
+
+abbrev pub is_part : Kind → Bool
+is_part kind.Absent = true
+is_part (kind.ArrayPat optional) = true
+is_part (kind.ObjectPat optional) = true
+is_part kind.RestPat = true
+is_part kind.AssignPat = true
+is_part kind.KeyValuePatProp = true
+is_part kind.AssignPatProp = true
+is_part kind.KeyValueProp = true
+is_part (kind.VarDeclarator definite) = true
+is_part _ = false
+
+part_item : (k : Kind) → is_part k ≡ true → (b : Bool) → cond (is_empty_stmt k) true (cond (belongs sort.ModuleItem k) b true) ≡ true
+part_item kind.Absent h b = refl
+part_item (kind.ArrayPat optional) h b = refl
+part_item (kind.ObjectPat optional) h b = refl
+part_item kind.RestPat h b = refl
+part_item kind.AssignPat h b = refl
+part_item kind.KeyValuePatProp h b = refl
+part_item kind.AssignPatProp h b = refl
+part_item kind.KeyValueProp h b = refl
+part_item (kind.VarDeclarator definite) h b = refl
+part_item _ h b = cc
+
+part_member : (k : Kind) → is_part k ≡ true → (n : Node) → member_stays_by k n ≡ true
+unfolding member_stays_by
+part_member kind.Absent h n = refl
+part_member (kind.ArrayPat optional) h n = refl
+part_member (kind.ObjectPat optional) h n = refl
+part_member kind.RestPat h n = refl
+part_member kind.AssignPat h n = refl
+part_member kind.KeyValuePatProp h n = refl
+part_member kind.AssignPatProp h n = refl
+part_member kind.KeyValueProp h n = refl
+part_member (kind.VarDeclarator definite) h n = refl
+part_member _ h n = cc
+
+part_specifier : (k : Kind) → is_part k ≡ true → specifier_stays k ≡ true
+unfolding specifier_stays
+part_specifier kind.Absent h = refl
+part_specifier (kind.ArrayPat optional) h = refl
+part_specifier (kind.ObjectPat optional) h = refl
+part_specifier kind.RestPat h = refl
+part_specifier kind.AssignPat h = refl
+part_specifier kind.KeyValuePatProp h = refl
+part_specifier kind.AssignPatProp h = refl
+part_specifier kind.KeyValueProp h = refl
+part_specifier (kind.VarDeclarator definite) h = refl
+part_specifier _ h = cc
+
+part_this : (k : Kind) → is_part k ≡ true → (n : Node) → is_this_by k n ≡ false
+part_this kind.BindingIdent h n = cc
+part_this _ h n = refl
+
+part_param : (k : Kind) → is_part k ≡ true → (n : Node) → is_this_param_by k n ≡ is_this n
+part_param kind.Param h n = cc
+part_param _ h n = refl
+
+pub part_stays : (n : Node) → is_part (kind_of n) ≡ true → stays n ≡ true
+unfolding stays
+part_stays n h =
+    let k = kind_of n in
+    let param = part_param k h n ∙ part_this k h n in
+    λ j. ((part_item k h (is_value n && not (is_ambient n)) j && part_member k h n j) && part_specifier k h j) && not (param j)
+
 -- ---- attributes
 
 both : (a b : Bool) → (a && b) ≡ true → (a ≡ true) × (b ≡ true)
@@ -138,10 +205,6 @@ key_value_children : (cs : List Node) → plain_children kind.KeyValueProp cs �
 unfolding plain_children
 key_value_children cs = refl
 
-key_value_calm : is_calm kind.KeyValueProp ≡ true
-unfolding is_calm
-key_value_calm = refl
-
 attribute_kept : (p : Node) → is_attribute p ≡ true → (attribute (stripped p) ≡ attribute p) × (stays p ≡ true)
 attribute_kept p h =
     let t = both (is_key_value (kind_of p)) (child_is is_attribute_key p 0 && child_is is_text p 1) h in
@@ -151,7 +214,7 @@ attribute_kept p h =
     usual_children p (ap class_of e ∙ key_value_usual) ∙ ap (λ k. plain_children k (map stripped (children_of p))) e ∙ key_value_children (map stripped (children_of p)) in
     let key = ap (λ (z : List Node). said_of (slice_get z 0)) children ∙ said_kept (children_of p) 0 (of_kind_at is_attribute_key key_usual (children_of p) 0 u.0) in
     let value = ap (λ (z : List Node). said_of (slice_get z 1)) children ∙ said_kept (children_of p) 1 (of_kind_at is_text value_usual (children_of p) 1 u.1) in
-    ((λ j. record { key = key j; value = value j }), calm_stays p (ap is_calm e ∙ key_value_calm))
+    ((λ j. record { key = key j; value = value j }), part_stays p (ap is_part e))
 
 attributes_kept : (ps : List Node) → list_all is_attribute ps ≡ true → map attribute (map stripped (filter stays ps)) ≡ map attribute ps
 attributes_kept [] h = refl

@@ -62,16 +62,14 @@ module _ {X : Type 0} (told : Node → List X) where
       ∙ ap (λ b. flat_map told (cond b (stripped n ∷ filter stays (left ns)) (filter stays (left ns)))) k.1
       ∙ ap₂ (λ xs ys. xs ++ ys) k.0 rest
 
+  next_told : (n : Node) (ns : List Node) → (stays n ≡ true → KeptBy n) → flat_map told (filter stays (left ns)) ≡ flat_map told (filter stays ns) → (b : Bool) → stays n ≡ b
+      → flat_map told (filter stays (filter is_full (map stripped (cond b (n ∷ filter stays ns) (filter stays ns))))) ≡ flat_map told (cond b (n ∷ filter stays ns) (filter stays ns))
+  next_told n ns kept rest true e = one_told n ns (kept e) rest
+  next_told n ns kept rest false e = rest
+
   all_told : (ns : List Node) → ((i : ℕ) (n : Node) → slice_get ns i ≡ Some n → stays n ≡ true → KeptBy n) → flat_map told (filter stays (left ns)) ≡ flat_map told (filter stays ns)
   all_told [] h = refl
-  all_told (n ∷ ns) h = by (stays n) refl
-    where
-      rest : flat_map told (filter stays (left ns)) ≡ flat_map told (filter stays ns)
-      rest = all_told ns (λ i x at. h (suc i) x at)
-
-      by : (b : Bool) → stays n ≡ b → flat_map told (filter stays (filter is_full (map stripped (cond b (n ∷ filter stays ns) (filter stays ns))))) ≡ flat_map told (cond b (n ∷ filter stays ns) (filter stays ns))
-      by true e = one_told n ns (h 0 n refl e) rest
-      by false e = rest
+  all_told (n ∷ ns) h = next_told n ns (h 0 n refl) (all_told ns (λ i x at. h (suc i) x at)) (stays n) refl
 
 module _ (text : Id → List ℕ) where
   imports_of : (n : Node) → Kept text n → KeptBy (import text) n
@@ -195,7 +193,7 @@ module _ (text : Id → List ℕ) (tree : Node) (fits : Fits tree) (alone : adds
     shaped : HasShape (one sort.ModuleItem) x
     shaped = listed_shaped sort.ModuleItem l (list_shaped_so l there) i x at
 
-    place : Where
+    abbrev place : Where
     place = where_in (where_in at_top tree 0) l i
 
     stands : Stands x place
