@@ -30,3 +30,13 @@ WrittenTreesHaveTheirInterface =
     (assignments : Bool) (free : ℕ) (tree final written : Node) → IsReady assignments free tree → (is : IsHygienic (stripped tree) final)
     → KeepsExportedTexts (text_of (text_in is.names)) (stripped tree) → IsReading (with_sources final) written
     → interface_of own_text written ≡ interface_of (text_of (text_in is.names)) tree
+
+-- the parts of it that stand on what is written and read
+
+-- with the source texts of its literals a module has the interface that it has without them
+abbrev pub LiteralsKeepInterfaces : Type 0
+LiteralsKeepInterfaces = (text : Id → List ℕ) (tree : Node) → HasSort sort.Module tree → interface_of text (with_sources tree) ≡ interface_of text tree
+
+-- what is read of the layout of a module has its interface, by the texts of its names
+abbrev pub ReadTreesKeepInterfaces : Type 0
+ReadTreesKeepInterfaces = (tree written : Node) → HasSort sort.Module tree → IsReading tree written → interface_of own_text written ≡ interface_of own_text tree

@@ -1,0 +1,4 @@
+pub mod Bound
+pub mod Final
+pub mod Names
+pub mod Specifiers

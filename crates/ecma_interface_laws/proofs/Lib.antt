@@ -1,0 +1,5 @@
+pub mod Alike
+pub mod Changed
+pub mod Items
+pub mod Looking
+pub mod Telling
