@@ -1,7 +1,7 @@
 -- What is read as a module, and the source of a module that is written, with bound names.
 use Rattle.std.specs.Prelude.{◌≡◌, None}
 use Rattle.ecma_tree.specs.declared.node.Node.{Node}
-use Rattle.ecma_forms.specs.Forms.{first_untaken}
+use Rattle.ecma_forms.specs.Forms.{first_unlowered, first_untaken}
 use Rattle.ecma_plain.specs.Read.{IsRead}
 use Rattle.ecma_bind.specs.Binding.{with_bound_names}
 use Rattle.ecma_sources.specs.Sources.{IsSource}
@@ -13,6 +13,10 @@ BoundTreesAreRead = (tree : Node) → IsRead tree → IsRead (with_bound_names t
 -- and where each of its forms is taken, each is then
 abbrev pub BoundTreesAreTaken : Type 0
 BoundTreesAreTaken = (tree : Node) → first_untaken tree ≡ None → first_untaken (with_bound_names tree) ≡ None
+
+-- and where none of them has to be lowered first by another pass, none has then
+abbrev pub BoundTreesNeedNoLowering : Type 0
+BoundTreesNeedNoLowering = (tree : Node) → first_unlowered tree ≡ None → first_unlowered (with_bound_names tree) ≡ None
 
 -- the source of a module that is written is one with its names bound
 abbrev pub BoundSourcesAreSources : Type 0

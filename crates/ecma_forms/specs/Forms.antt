@@ -6,7 +6,7 @@ use Rattle.ecma_kind.specs.declared.kind.Kind.TheVariants as kind
 use Rattle.ecma_kind.specs.declared.shapes.Sort.TheVariants as sort
 use Rattle.ecma_tree.specs.Sorted.{is_list}
 use Rattle.ecma_tree.specs.declared.node.Node.{Node}
-use Rattle.ecma_strip.specs.Staying.{stays}
+use Rattle.ecma_strip.specs.Staying.{is_this_ident, stays}
 use Rattle.ecma_rules.specs.Children.{child_holds, child_is, kind_of}
 use Rattle.ecma_rules.specs.Failing.{first_failing, failing_here}
 use Rattle.ecma_rules.specs.Members.{has_body}
@@ -44,12 +44,20 @@ abbrev pub is_ambient_variable : Kind → Bool
 is_ambient_variable (kind.VarDecl k declare) = declare
 is_ambient_variable _ = false
 
--- what no text has, though no law says so: a function expression without a body, and a variable in the head of a loop after `declare`
+-- a specifier with a name `this`, which is for the laws of types the name of a parameter alone
+--   import { this as a } from "m"; export { b as this };   // each of them
+abbrev pub names_this : Node → Bool
+names_this node = child_is is_this_ident node 0 || child_is is_this_ident node 1
+
+-- such a specifier; and what no text has, though no law says so: a function expression without a body, and a variable in the head of a loop after `declare`
 abbrev pub is_odd_by : Kind → Node → Bool
 is_odd_by kind.FnExpr node = not (child_holds has_body node 1)
 is_odd_by kind.ForStmt node = child_is is_ambient_variable node 0
 is_odd_by kind.ForInStmt node = child_is is_ambient_variable node 0
 is_odd_by (kind.ForOfStmt is_await) node = child_is is_ambient_variable node 0
+is_odd_by (kind.ImportNamedSpecifier is_type_only) node = names_this node
+is_odd_by (kind.ExportNamedSpecifier is_type_only) node = names_this node
+is_odd_by kind.ExportNamespaceSpecifier node = names_this node
 is_odd_by _ node = false
 
 abbrev pub is_untaken : Node → Bool
@@ -61,15 +69,21 @@ is_untaken node = is_later (kind_of node) || is_odd_by (kind_of node) node
 abbrev pub goes : Node → Bool
 goes item = not (stays item) && not (belongs sort.ModuleDecl (kind_of item))
 
-abbrev pub goes_at : Node → ℕ → Bool
-goes_at node i = is_list (kind_of node) && child_holds goes node i
+-- what goes, with all that it holds, is not asked, whatever is asked of the others, and whatever goes
+abbrev pub asked_here : (Node → Bool) → Bool → Node → Option ℕ
+asked_here test gone node = failing_here (not gone && test node) node
 
--- what goes, with all that it holds, is not asked
+abbrev pub gone_at : (Node → Bool) → Node → ℕ → Bool
+gone_at going node i = is_list (kind_of node) && child_holds going node i
+
+abbrev pub gone_below : (Node → Bool) → Bool → Node → ℕ → Bool
+gone_below going gone node i = gone || gone_at going node i
+
 abbrev pub untaken_here : Bool → Node → Option ℕ
-untaken_here gone node = failing_here (not gone && is_untaken node) node
+untaken_here = asked_here is_untaken
 
 abbrev pub inside : Bool → Node → ℕ → Bool
-inside gone node i = gone || goes_at node i
+inside = gone_below goes
 
 -- the least place at which a node begins that is of a form that is not taken, and does not go with the types; none where each is of one that is taken, or goes
 abbrev pub first_untaken : Node → Option ℕ
@@ -97,14 +111,19 @@ is_unlowered_kind _ = false
 abbrev pub is_unlowered : Node → Bool
 is_unlowered node = is_unlowered_kind (kind_of node) || is_odd_by (kind_of node) node
 
+-- an item that goes from a list when the types go, an import or an export too
+--   import type { A } from "m"; import { type B } from "m";   // the first, and the specifier of the second
+abbrev pub leaves : Node → Bool
+leaves item = not (stays item)
+
 abbrev pub goes_from_list : Node → ℕ → Bool
-goes_from_list node i = is_list (kind_of node) && child_holds (λ item. not (stays item)) node i
+goes_from_list = gone_at leaves
 
 abbrev pub unlowered_here : Bool → Node → Option ℕ
-unlowered_here gone node = failing_here (not gone && is_unlowered node) node
+unlowered_here = asked_here is_unlowered
 
 abbrev pub gone_inside : Bool → Node → ℕ → Bool
-gone_inside gone node i = gone || goes_from_list node i
+gone_inside = gone_below leaves
 
 -- the least place at which a node begins that is of such a form, and does not go with the types
 abbrev pub first_unlowered : Node → Option ℕ

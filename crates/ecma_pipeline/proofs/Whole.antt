@@ -9,7 +9,8 @@ use Rattle.ecma_enclose.specs.Enclosing.{enclosed}
 use Rattle.ecma_enclose_runs.specs.Laws.{EnclosedTreesRunAlike}
 use Rattle.ecma_enclose_scopes.specs.Laws.{EnclosedTreesDeclareAlike, EnclosedTreesTakeAsManyContexts}
 use Rattle.ecma_enclose_sources.specs.Laws.{EnclosedTreesAreRead, EnclosedTreesAreTaken}
-use Rattle.ecma_forms.specs.Forms.{first_untaken}
+use Rattle.ecma_forms.specs.Forms.{first_unlowered, first_untaken}
+use Rattle.ecma_forms.specs.Laws.{TakenTreesNeedNoLowering}
 use Rattle.ecma_pipeline_names.specs.Laws.{EnclosingKeepsNamesShort, NamesThatAreReadAreShort}
 use Rattle.ecma_scope.specs.Conflicts.{redeclared}
 use Rattle.ecma_scope.specs.Resolved.{AreGiven}
@@ -19,7 +20,7 @@ use Rattle.ecma_scope.specs.Laws.{without_contexts}
 use Rattle.ecma_tree.specs.Spans.{without_spans}
 use Rattle.ecma_sources.specs.Sources.{IsReading, IsSource}
 use Rattle.ecma_plain.specs.Read.{IsRead, IsReadPlain}
-use Rattle.ecma_text_sources.specs.Laws.{ReadTreesAreRead, TakenTreesAreSources}
+use Rattle.ecma_text_sources.specs.Laws.{ReadTreesAreRead, TreesThatNeedNoLoweringAreSources}
 use Rattle.ecma_bind_sources.specs.Laws.{BoundTreesAreRead, BoundTreesAreTaken}
 use Rattle.ecma_pipeline_plain.specs.Laws.{FinalTreesArePlain, FinalTreesHaveNoLaterForms}
 use Rattle.ecma_modules.specs.Modules.{typescript}
@@ -36,7 +37,8 @@ use Rattle.ecma_pipeline.proofs.Sourced.{sources_stay}
 
 pub record Laws : Type 0 where
   pub reads : ReadTreesAreRead
-  pub sources : TakenTreesAreSources
+  pub sources : TreesThatNeedNoLoweringAreSources
+  pub lowered : TakenTreesNeedNoLowering
   pub short : NamesThatAreReadAreShort
   pub enclosed_read : EnclosedTreesAreRead
   pub enclosed_taken : EnclosedTreesAreTaken
@@ -75,17 +77,18 @@ written_modules laws unresolved top left bound text source final utf8 short read
     let tree : Node = enclosed source in
     let enclosed_read : IsRead tree = laws.enclosed_read source read in
     let taken : first_untaken tree ≡ None = laws.enclosed_taken source sorted is.taken in
+    let low : first_unlowered tree ≡ None = laws.lowered tree taken in
     let distinct : redeclared tree ≡ [] = laws.enclosed_distinct source sorted ∙ is.distinct in
     let given : AreGiven unresolved top left tree = enclosed_given laws.enclosed_contexts unresolved top left source sorted is.given in
-    let of : IsSource tree = laws.sources tree enclosed_read taken distinct in
+    let of : IsSource tree = laws.sources tree enclosed_read low distinct in
     let names : NoneLong tree = laws.enclosed_short source sorted (laws.short text typescript bound source (short_names (length text) short) reads) in
     let whole : Node = resolved unresolved top left (with_bound_names tree) in
-    let readiness = laws.ready unresolved top left tree enclosed_read names taken distinct given in
+    let readiness = laws.ready unresolved top left tree enclosed_read names low distinct given in
     let ready : IsReady false unresolved whole = readiness.0 in
     let own : HasOwnContexts whole = readiness.1 in
     let fits : Fits final = laws.fit false unresolved whole final ready is.hygienic in
     let plain : IsReadPlain false final =
-    laws.plain unresolved top left (with_bound_names tree) final (laws.bound_read tree enclosed_read) (laws.bound_taken tree taken) is.hygienic fits in
+    laws.plain unresolved top left (with_bound_names tree) final (laws.bound_read tree enclosed_read) (laws.lowered (with_bound_names tree) (laws.bound_taken tree taken)) is.hygienic fits in
     let bare = source_is_exportless unresolved top left (with_bound_names tree) (laws.bound_read tree enclosed_read) (laws.bound_taken tree taken) in
     let made = laws.written false unresolved whole final ready own bare is.hygienic in
     let later = laws.later unresolved top left (with_bound_names tree) final (laws.bound_read tree enclosed_read) (laws.bound_taken tree taken) is.hygienic in

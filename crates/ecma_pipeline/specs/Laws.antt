@@ -6,7 +6,7 @@ use Rattle.ecma_tree.specs.declared.node.Node.{Node}
 use Rattle.ecma_tree.specs.Sorted.{HasSort}
 use Rattle.ecma_modules.specs.Modules.{reads_as, typescript}
 use Rattle.ecma_fits.specs.Fitting.{Fits}
-use Rattle.ecma_forms.specs.Forms.{first_untaken}
+use Rattle.ecma_forms.specs.Forms.{first_unlowered, first_untaken}
 use Rattle.ecma_scope.specs.Resolved.{resolved, AreGiven}
 use Rattle.ecma_strip.specs.Stripping.{stripped}
 use Rattle.ecma_hygiene.specs.Hygienic.{IsHygienic}
@@ -32,11 +32,11 @@ WrittenModulesDoWhatTheirSourcesDo =
     (unresolved top left bound : ℕ) (text : List ℕ) (source final : Node) → IsUtf8 text → length text < 2 ^ 32 - 64 → reads_as text typescript bound ≡ Ok source
     → (is : IsWrittenFor unresolved top left source final) → DoesWhatItsSourceDoes unresolved top left source final (final_text is.hygienic)
 
--- a module as it is read, of which each form is taken, no identifier is long, and no name is declared again where it may not be, is ready once its names are bound and
--- it is resolved, and its scopes have contexts of their own
+-- a module as it is read, of which no form has to be lowered first by another pass, no identifier is long, and no name is declared again where it may not be, is ready once
+-- its names are bound and it is resolved, and its scopes have contexts of their own
 abbrev pub BoundSourcesAreReady : Type 0
 BoundSourcesAreReady =
-    (unresolved top left : ℕ) (source : Node) → IsRead source → NoneLong source → first_untaken source ≡ None → redeclared source ≡ [] → AreGiven unresolved top left source
+    (unresolved top left : ℕ) (source : Node) → IsRead source → NoneLong source → first_unlowered source ≡ None → redeclared source ≡ [] → AreGiven unresolved top left source
     → IsReady false unresolved (resolved unresolved top left (with_bound_names source)) × HasOwnContexts (resolved unresolved top left (with_bound_names source))
 
 -- the tree that is written fits: one that is ready, without its types, with its final texts

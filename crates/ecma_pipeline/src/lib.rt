@@ -4,7 +4,7 @@
 //!
 //! | step | pass | its laws |
 //! |---|---|---|
-//! | A text is read as a module: it fits, and where each of its forms is taken it is a source of what is written. | `ecma_text` | `ecma_text_sorts`, `ecma_text_leaves`, `ecma_text_fits`, `ecma_text_plain`, `ecma_text_sources`, `ecma_text_contexts`, `ecma_text_runs`; `ecma_pipeline_names` |
+//! | A text is read as a module: it fits, and where none of its forms has to be lowered it is a source of what is written. | `ecma_text` | `ecma_text_sorts`, `ecma_text_leaves`, `ecma_text_fits`, `ecma_text_plain`, `ecma_text_sources`, `ecma_text_contexts`, `ecma_text_runs`; `ecma_pipeline_names` |
 //! | What would be read as a directive, or as `async` of an arrow function, gets parentheses. | `ecma_enclose` | `ecma_enclose_fits`, `ecma_enclose_scopes`, `ecma_enclose_runs`, `ecma_enclose_sources` |
 //! | Names with types round them are bound. | `ecma_bind` | `ecma_bind_fits`, `ecma_bind_scopes`, `ecma_bind_runs`, `ecma_bind_sources` |
 //! | Each identifier gets the context of what it names. | `ecma_scope` | `ecma_scope_fits`, `ecma_scope_congruence` |
@@ -25,10 +25,13 @@ ghost use Rattle.ecma_pipeline.specs.Laws.{BoundSourcesAreReady, BoundSourcesRun
 
 use ecma_bind_fits::bound_names_are_plain;
 use ecma_bind_scopes::bound_names_do_not_matter_to_scopes;
-use ecma_bind_sources::{bound_trees_are_read, bound_trees_are_taken};
+use ecma_bind_sources::{
+    bound_trees_are_read, bound_trees_are_taken, bound_trees_need_no_lowering,
+};
 use ecma_enclose_runs::enclosed_trees_run_alike;
 use ecma_enclose_scopes::enclosed_trees_scope_alike;
 use ecma_enclose_sources::{enclosed_trees_are_read, enclosed_trees_are_taken};
+use ecma_forms::what_is_taken_needs_no_lowering;
 use ecma_hygiene_fits::final_texts_keep_what_fits;
 use ecma_hygiene_scopes::resolved_modules_keep_their_scopes_apart;
 use ecma_pipeline_names::{
@@ -50,7 +53,7 @@ use ecma_source_texts::{
     source_texts_do_not_matter_to_parentheses, source_texts_do_not_matter_to_runs,
 };
 use ecma_strip_fits::stripping_keeps_fits;
-use ecma_text_sources::{taken_trees_are_sources, trees_that_are_read_are_read};
+use ecma_text_sources::{trees_that_are_read_are_read, trees_that_need_no_lowering_are_sources};
 
 /// What is written for a module of which each form is taken, and which declares no name again where it may not, is read again as a plain module, of the tree
 /// that was written, declares none again either, has the imports and exports of its source, and is observed to do what that does.
@@ -58,7 +61,8 @@ pub fn written_modules_do_what_their_sources_do()
     ensures { WrittenModulesDoWhatTheirSourcesDo }
 {
     trees_that_are_read_are_read();
-    taken_trees_are_sources();
+    trees_that_need_no_lowering_are_sources();
+    what_is_taken_needs_no_lowering();
     names_that_are_read_are_short();
     enclosed_trees_are_read();
     enclosed_trees_are_taken();
@@ -94,14 +98,15 @@ pub fn ready_trees_are_written()
     source_texts_do_not_matter_to_runs();
 }
 
-/// Ready: a module as it is read, of which each form is taken, is ready to be stripped of its types, given its final texts and written, once its names are bound
-/// and it is resolved: if no identifier of it has a text of 2^32 - 64 bytes or more, no name is declared again where it may not be, and there were contexts enough.
+/// Ready: a module as it is read, of which no form has to be lowered first by another pass, is ready to be stripped of its types, given its final texts and
+/// written, once its names are bound and it is resolved: if no identifier of it has a text of 2^32 - 64 bytes or more, no name is declared again where it may
+/// not be, and there were contexts enough.
 pub fn bound_sources_are_ready()
     ensures { BoundSourcesAreReady }
 {
     bound_trees_are_read();
-    bound_trees_are_taken();
-    taken_trees_are_sources();
+    bound_trees_need_no_lowering();
+    trees_that_need_no_lowering_are_sources();
     bound_names_do_not_matter_to_scopes();
     bound_names_are_plain();
     contexts_do_not_matter_to_fits();

@@ -8,11 +8,10 @@ use Rattle.ecma_kind.specs.declared.kind.Kind.TheVariants as kind
 use Rattle.ecma_tree.specs.Contexts.{kind_with_context}
 use Rattle.ecma_plain.specs.Forms.{IsBare, IsTaken, IsBareUnquestioned}
 use Rattle.ecma_plain.specs.Functions.{is_this_name}
-use Rattle.ecma_forms.specs.Forms.{is_ambient_variable, is_later}
+use Rattle.ecma_forms.specs.Forms.{is_ambient_variable, is_unlowered_kind}
 use Rattle.ecma_strip.specs.Laws.{is_type_part}
 use Rattle.ecma_strip.specs.Stripping.{plain_kind}
 use Rattle.ecma_hygiene.proofs.Telling.{true-false}
-use Rattle.ecma_pipeline_plain.specs.Laws.{IsNotLater}
 use Rattle.ecma_hygiene.specs.Renamed.{Texts, kind_with_text, proto_literal, quoted_proto, text_of}
 
 abbrev pub empty : List ℕ → ℕ → ℕ
@@ -26,14 +25,18 @@ abbrev pub HasTexts : Kind → Type 0
 HasTexts (kind.Ident text ctxt optional) = IsUtf8 text
 HasTexts k = IsBare k
 
+-- a kind that no other pass has to lower
+abbrev pub IsLowered : Kind → Type 0
+IsLowered k = is_unlowered_kind k ≡ false
+
 -- of what stays of a source
 abbrev pub IsGiven : Kind → Type 0
-IsGiven k = HasTexts k × (is_later k ≡ false)
+IsGiven k = HasTexts k × IsLowered k
 
--- a form that is not taken, or the name `this`
+-- a form that another pass has to lower, or the name `this`
 abbrev pub is_barred : Kind → Bool
 is_barred (kind.Ident text ctxt optional) = bytes_eq text (codes "this")
-is_barred k = is_later k
+is_barred k = is_unlowered_kind k
 
 -- of what is left of it without types
 abbrev pub IsLeft : Kind → Type 0
@@ -107,11 +110,11 @@ given_left kind.TsQualifiedName p t v o = absurd (true-false refl p.1)
 given_left (kind.TsParamProp accessibility is_override readonly) p t v o = absurd (true-false refl p.1)
 given_left kind.ExportDefaultSpecifier p t v o = absurd (true-false refl p.1)
 given_left (kind.TsImportEqualsDecl is_export is_type_only) p t v o = absurd (true-false refl p.1)
-given_left (kind.ImportDecl type_only) p t v o = absurd (true-false refl p.1)
-given_left (kind.NamedExport type_only) p t v o = absurd (true-false refl p.1)
-given_left (kind.ExportAll type_only) p t v o = absurd (true-false refl p.1)
-given_left (kind.ImportNamedSpecifier is_type_only) p t v o = absurd (true-false refl p.1)
-given_left (kind.ExportNamedSpecifier is_type_only) p t v o = absurd (true-false refl p.1)
+given_left (kind.ImportDecl type_only) p t v o = ((tt, ap not t), refl)
+given_left (kind.NamedExport type_only) p t v o = ((tt, ap not t), refl)
+given_left (kind.ExportAll type_only) p t v o = ((tt, ap not t), refl)
+given_left (kind.ImportNamedSpecifier is_type_only) p t v o = ((tt, ap not t), refl)
+given_left (kind.ExportNamedSpecifier is_type_only) p t v o = ((tt, ap not t), refl)
 given_left (kind.FnDecl declare) p t v o = ((tt, ap not t), refl)
 given_left (kind.ClassDecl declare) p t v o = ((tt, ap not t), refl)
 given_left (kind.VarDecl k declare) p t v o = ((tt, ap not v), refl)
@@ -149,9 +152,9 @@ left_brackets = (((tt, refl), refl), ((IsUtf8-from_is_utf8 quoted_proto quoted_p
 
 -- ---- contexts, and names
 
-pub later_bare : (k : Kind) → IsLeft k → IsNotLater (bare k)
-later_bare (kind.Ident text ctxt optional) p = refl
-later_bare _ p = p.1
+pub lowered_bare : (k : Kind) → IsLeft k → IsLowered (bare k)
+lowered_bare (kind.Ident text ctxt optional) p = refl
+lowered_bare _ p = p.1
 
 pub left_other : (k : Kind) → IsLeft k → is_this_name k ≡ false
 left_other (kind.Ident text ctxt optional) p = p.1

@@ -7,11 +7,11 @@ use Rattle.ecma_tree.specs.declared.node.Node.{Node}
 use Rattle.ecma_tree.proofs.Layers.{from_leaves_out}
 use Rattle.ecma_rules.specs.Children.{kind_of}
 use Rattle.ecma_strip.specs.Staying.{stays}
-use Rattle.ecma_forms.specs.Forms.{first_untaken, is_later, is_odd_by}
+use Rattle.ecma_forms.specs.Forms.{first_unlowered, is_odd_by, is_unlowered_kind}
 use Rattle.ecma_hygiene.proofs.Telling.{and-both, and-left, and-right, true-false}
 use Rattle.ecma_hygiene_fits.proofs.Everywhere.{children_of}
 use Rattle.ecma_sources.specs.TypesAlone.{staying_hold}
-use Rattle.ecma_text_sources.proofs.Taken.{not_later, not_odd, taken_below}
+use Rattle.ecma_text_sources.proofs.Taken.{low_below, not_odd, not_unlowered}
 use Rattle.ecma_pipeline_runs.proofs.Nodes.{StaysIn, by-children, none-some, not-true, some-same}
 use Rattle.ecma_ready.specs.Leaving.{is_left_over, leaves_plain_forms, leaves_step, may_be_left}
 
@@ -65,20 +65,20 @@ module _ (assignments : Bool) where
   leaves_made n h each =
       leaves_out n ∙ and-both (may_be_left assignments n) (staying_hold (is_list (kind_of n)) (children_of n) (map leaves (children_of n))) h (hold_made leaves (is_list (kind_of n)) (children_of n) each)
 
--- ---- a source of which each form is taken
+-- ---- a source that needs no lowering
 
-later_over : (assignments : Bool) (k : Kind) → is_later k ≡ false → is_left_over assignments k ≡ false
-later_over assignments kind.TsExportAssignment h = absurd (true-false refl h)
-later_over assignments kind.TsModuleBlock h = absurd (true-false refl h)
-later_over assignments kind.TsQualifiedName h = absurd (true-false refl h)
-later_over assignments (kind.TsParamProp accessibility is_override readonly) h = absurd (true-false refl h)
-later_over assignments kind.ExportDefaultSpecifier h = absurd (true-false refl h)
-later_over assignments (kind.TsEnumDecl declare is_const) h = absurd (true-false refl h)
-later_over assignments kind.TsEnumMember h = absurd (true-false refl h)
-later_over assignments (kind.TsModuleDecl declare global) h = absurd (true-false refl h)
-later_over assignments (kind.TsNamespaceDecl declare global) h = absurd (true-false refl h)
-later_over assignments (kind.TsImportEqualsDecl is_export is_type_only) h = absurd (true-false refl h)
-later_over assignments _ h = refl
+lowered_over : (assignments : Bool) (k : Kind) → is_unlowered_kind k ≡ false → is_left_over assignments k ≡ false
+lowered_over assignments kind.TsExportAssignment h = absurd (true-false refl h)
+lowered_over assignments kind.TsModuleBlock h = absurd (true-false refl h)
+lowered_over assignments kind.TsQualifiedName h = absurd (true-false refl h)
+lowered_over assignments (kind.TsParamProp accessibility is_override readonly) h = absurd (true-false refl h)
+lowered_over assignments kind.ExportDefaultSpecifier h = absurd (true-false refl h)
+lowered_over assignments (kind.TsEnumDecl declare is_const) h = absurd (true-false refl h)
+lowered_over assignments kind.TsEnumMember h = absurd (true-false refl h)
+lowered_over assignments (kind.TsModuleDecl declare global) h = absurd (true-false refl h)
+lowered_over assignments (kind.TsNamespaceDecl declare global) h = absurd (true-false refl h)
+lowered_over assignments (kind.TsImportEqualsDecl is_export is_type_only) h = absurd (true-false refl h)
+lowered_over assignments _ h = refl
 
 neither : (a b : Bool) → a ≡ false → b ≡ false → (not a && not b) ≡ true
 neither true b h g = absurd (true-false refl h)
@@ -86,11 +86,11 @@ neither false true h g = absurd (true-false refl g)
 neither false false h g = refl
 
 module _ (assignments : Bool) where
-  abbrev TakenLeaves : Node → Type 0
-  TakenLeaves n = first_untaken n ≡ None → leaves_plain_forms assignments n ≡ true
+  abbrev LowLeaves : Node → Type 0
+  LowLeaves n = first_unlowered n ≡ None → leaves_plain_forms assignments n ≡ true
 
-  pub taken_leaves : (n : Node) → TakenLeaves n
-  taken_leaves = by-children TakenLeaves (λ n below taken.
+  pub low_leaves : (n : Node) → LowLeaves n
+  low_leaves = by-children LowLeaves (λ n below low.
       leaves_made assignments n
-      (neither (is_left_over assignments (kind_of n)) (is_odd_by (kind_of n) n) (later_over assignments (kind_of n) (not_later n taken)) (not_odd n taken))
-      (λ i c at st. below i c at (taken_below n taken i c at st)))
+      (neither (is_left_over assignments (kind_of n)) (is_odd_by (kind_of n) n) (lowered_over assignments (kind_of n) (not_unlowered n low)) (not_odd n low))
+      (λ i c at st. below i c at (low_below n low i c at st)))

@@ -11,6 +11,7 @@ pub mod OrdinaryRenamed
 pub mod OrdinaryParts
 pub mod OrdinaryStripped
 pub mod Untaken
+pub mod NotLater
 pub mod Leaving
 pub mod WrittenTexts
 pub mod Law

@@ -35,33 +35,33 @@ use Rattle.ecma_pipeline_runs.proofs.Full.{modules-are-full}
 use Rattle.ecma_pipeline_runs.proofs.FullParts.{full_by, is_foreign, is_full, lacks}
 use Rattle.ecma_pipeline_runs.proofs.Nodes.{by-children, not-true, test-below, test-here}
 use Rattle.ecma_pipeline_runs.proofs.Plainness.{finds-below, finds-itself, full-lacks}
-use Rattle.ecma_forms.specs.Forms.{first_untaken, is_ambient_variable}
+use Rattle.ecma_forms.specs.Forms.{first_unlowered, is_ambient_variable}
 use Rattle.ecma_plain.specs.Read.{IsRead}
 use Rattle.ecma_text_sources.proofs.Quiet.{not_this}
-use Rattle.ecma_text_sources.proofs.Taken.{not_later, taken_below}
+use Rattle.ecma_text_sources.proofs.Taken.{low_below, not_unlowered}
 use Rattle.ecma_text_sources.proofs.TypesAlone.{types_alone}
 use Rattle.ecma_pipeline_plain.proofs.Everywhere.{each_at, each_of, everywhere_made, everywhere_moved, everywhere_returned, parts}
 use Rattle.ecma_pipeline_plain.proofs.KindsSaid.{HasTexts, IsGiven, IsLeft, IsNotThis, bare_texts, empty, given_left, given_plain, left_brackets, left_old, left_written, texts_bare}
 use Rattle.ecma_pipeline_plain.proofs.Renaming.{everywhere_renamed}
 use Rattle.ecma_pipeline_plain.proofs.Stripping.{Says, kept}
 use Rattle.ecma_pipeline_plain.proofs.Texts.{final_text_utf8}
-use Rattle.ecma_pipeline_plain.proofs.Untaken.{resolved_taken}
+use Rattle.ecma_pipeline_plain.proofs.Untaken.{resolved_low}
 use Rattle.ecma_plain.specs.Functions.{is_this_name}
 
 -- ---- the source
 
 -- what is said of a node that stays
 abbrev Asked : Node → Type 0
-Asked n = Everywhere HasTexts n × (first_untaken n ≡ None)
+Asked n = Everywhere HasTexts n × (first_unlowered n ≡ None)
 
 asked_says : Says Asked (Everywhere IsGiven)
 asked_says = record {
-  below = λ n t i c at stay. (each_at HasTexts (children_of n) (parts HasTexts t.0).1 i c at, taken_below n t.1 i c at stay);
+  below = λ n t i c at stay. (each_at HasTexts (children_of n) (parts HasTexts t.0).1 i c at, low_below n t.1 i c at stay);
   missing = everywhere dummy_span kind.Absent (tt, refl) none;
   empty = λ span. everywhere span kind.EmptyStmt (tt, refl) none;
   lists = λ span cs each. everywhere span kind.List (tt, refl) (each_of IsGiven cs each);
   usual = λ n s u has t each.
-      everywhere (out-Node n).span (plain_kind (kind_of n)) (given_plain (kind_of n) ((parts HasTexts t.0).0, not_later n t.1)) (each_of IsGiven (plain_children (kind_of n) (map stripped (children_of n))) each);
+      everywhere (out-Node n).span (plain_kind (kind_of n)) (given_plain (kind_of n) ((parts HasTexts t.0).0, not_unlowered n t.1)) (each_of IsGiven (plain_children (kind_of n) (map stripped (children_of n))) each);
 }
 
 -- ---- what is left without types
@@ -88,7 +88,7 @@ leaves = by-children Leaves (λ n below g free full.
 
 -- ---- the written tree
 
-module _ (unresolved top left : ℕ) (source : Node) (read : IsRead source) (taken : first_untaken source ≡ None) where
+module _ (unresolved top left : ℕ) (source : Node) (read : IsRead source) (low : first_unlowered source ≡ None) where
   abbrev pub r : Node
   r = resolved unresolved top left source
 
@@ -99,7 +99,7 @@ module _ (unresolved top left : ℕ) (source : Node) (read : IsRead source) (tak
   resolved_fits = (resolved_fit_alike unresolved top left source).1 read.fits
 
   alone : adds_types_alone r ≡ true
-  alone = resolved-adds-types changes-contexts unresolved top left source (types_alone source read.fits taken)
+  alone = resolved-adds-types changes-contexts unresolved top left source (types_alone source read.fits low)
 
   pub stripped_full : is_full s ≡ true
   stripped_full = modules-are-full r resolved_fits alone
@@ -113,9 +113,9 @@ module _ (unresolved top left : ℕ) (source : Node) (read : IsRead source) (tak
       (subst (Everywhere HasTexts) (sym (changes-contexts unresolved top left source)) (everywhere_moved IsBareUnquestioned HasTexts empty texts_bare read.bare))
 
   given_stripped : Everywhere IsGiven s
-  given_stripped = (kept Asked (Everywhere IsGiven) asked_says r (one sort.Module) resolved_fits.sorted (texts_resolved, resolved_taken unresolved top left source taken)).0
+  given_stripped = (kept Asked (Everywhere IsGiven) asked_says r (one sort.Module) resolved_fits.sorted (texts_resolved, resolved_low unresolved top left source low)).0
 
-  pub left_stripped : Everywhere IsLeft s
+  left_stripped : Everywhere IsLeft s
   left_stripped = leaves s given_stripped free stripped_full
 
   module _ (final : Node) (hygienic : IsHygienic s final) where

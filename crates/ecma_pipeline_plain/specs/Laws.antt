@@ -3,7 +3,7 @@ use Rattle.std.specs.Prelude.{◌≡◌, ℕ, Bool, false, None}
 use Rattle.ecma_kind.specs.declared.kind.Kind.{Kind}
 use Rattle.ecma_tree.specs.declared.node.Node.{Node}
 use Rattle.ecma_fits.specs.Fitting.{Fits}
-use Rattle.ecma_forms.specs.Forms.{first_untaken, is_later}
+use Rattle.ecma_forms.specs.Forms.{first_unlowered, first_untaken, is_later}
 use Rattle.ecma_scope.specs.Laws.{without_contexts}
 use Rattle.ecma_scope.specs.Resolved.{resolved}
 use Rattle.ecma_text_leaves.specs.Everywhere.{Everywhere}
@@ -13,10 +13,10 @@ use Rattle.ecma_plain.specs.Plain.{IsPlain}
 use Rattle.ecma_plain.specs.Read.{IsRead, IsReadPlain}
 use Rattle.ecma_ready.specs.Ready.{IsReady}
 
--- where each form of the source is taken, and the written tree fits, it is a plain module without import and export assignments
+-- where no form of the source has to be lowered first by another pass, and the written tree fits, it is a plain module without import and export assignments
 abbrev pub FinalTreesArePlain : Type 0
 FinalTreesArePlain =
-    (unresolved top left : ℕ) (source final : Node) → IsRead source → first_untaken source ≡ None → IsHygienic (stripped (resolved unresolved top left source)) final → Fits final → IsReadPlain false final
+    (unresolved top left : ℕ) (source final : Node) → IsRead source → first_unlowered source ≡ None → IsHygienic (stripped (resolved unresolved top left source)) final → Fits final → IsReadPlain false final
 
 -- so a tree that is ready, without its types and with its final texts, is plain, whether or not its literals have source texts
 abbrev pub ReadyTreesArePlain : Type 0
@@ -26,7 +26,7 @@ ReadyTreesArePlain = (assignments : Bool) (free : ℕ) (tree final : Node) → I
 abbrev pub IsNotLater : Kind → Type 0
 IsNotLater k = is_later k ≡ false
 
--- so nothing of imports and exports stands in the written tree
+-- where each form of the source is taken, nothing of imports and exports stands in the written tree
 abbrev pub FinalTreesHaveNoLaterForms : Type 0
 FinalTreesHaveNoLaterForms =
     (unresolved top left : ℕ) (source final : Node) → IsRead source → first_untaken source ≡ None

@@ -16,7 +16,7 @@ use Rattle.ecma_fits.specs.declared.role.Role.TheVariants as role
 use Rattle.ecma_fits.specs.Roles.{at_child, bound_name_of, by, in_default, in_list, in_pattern, in_rest, in_template, left_of, operand_of, role_in}
 use Rattle.ecma_hygiene.proofs.Telling.{true-false}
 use Rattle.ecma_pipeline_runs.proofs.Remaining.{is_many, restless}
-use Rattle.ecma_forms.specs.Forms.{is_later}
+use Rattle.ecma_forms.specs.Forms.{is_unlowered_kind}
 
 -- ---- words
 
@@ -109,16 +109,19 @@ pub bound_unnamed : (r : Role) → is_parameter r ≡ false → names_this (boun
 bound_unnamed role.Parameter h = absurd (true-false refl h)
 bound_unnamed _ h = refl
 
--- kinds with parameters, or with names of these
+-- kinds with parameters, or with names of these; and specifiers, whose names may be any
 abbrev pub is_special : Kind → Bool
 is_special kind.List = true
 is_special kind.Param = true
 is_special kind.BindingIdent = true
 is_special kind.SetterProp = true
 is_special (kind.ArrowExpr is_async is_generator) = true
+is_special (kind.ImportNamedSpecifier is_type_only) = true
+is_special (kind.ExportNamedSpecifier is_type_only) = true
+is_special kind.ExportNamespaceSpecifier = true
 is_special _ = false
 
-pub role_quiet : (r : Role) (k : Kind) (i : ℕ) → is_later k ≡ false → is_special k ≡ false → is_loud (role_in r k i) ≡ false
+pub role_quiet : (r : Role) (k : Kind) (i : ℕ) → is_unlowered_kind k ≡ false → is_special k ≡ false → is_loud (role_in r k i) ≡ false
 unfolding role_in
 role_quiet r kind.List i l s = absurd (true-false refl s)
 role_quiet r kind.Param i l s = absurd (true-false refl s)
@@ -142,9 +145,9 @@ role_quiet r (kind.BinExpr op) i l s = of_child is_loud 0 i (operand_of op) (of_
 role_quiet r kind.MemberExpr i l s = of_child is_loud 1 i role.Private refl refl
 role_quiet r (kind.PrivateMethod k modifiers) i l s = of_child is_loud 0 i role.Private refl refl
 role_quiet r (kind.PrivateProp modifiers readonly declare definite) i l s = of_child is_loud 0 i role.Private refl refl
-role_quiet r (kind.ImportNamedSpecifier is_type_only) i l s = absurd (true-false refl l)
-role_quiet r (kind.ExportNamedSpecifier is_type_only) i l s = absurd (true-false refl l)
-role_quiet r kind.ExportNamespaceSpecifier i l s = absurd (true-false refl l)
+role_quiet r (kind.ImportNamedSpecifier is_type_only) i l s = absurd (true-false refl s)
+role_quiet r (kind.ExportNamedSpecifier is_type_only) i l s = absurd (true-false refl s)
+role_quiet r kind.ExportNamespaceSpecifier i l s = absurd (true-false refl s)
 role_quiet r kind.TsEnumMember i l s = absurd (true-false refl l)
 role_quiet r kind.TaggedTpl i l s = of_child is_loud 2 i role.Tagged refl refl
 role_quiet r kind.Tpl i l s = of_child is_loud 1 i (in_template r) (template_quiet r) refl

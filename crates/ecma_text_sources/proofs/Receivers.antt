@@ -1,4 +1,4 @@
--- In a tree that fits, and of which each form is taken, a name `this` stands in a parameter alone.
+-- In a tree that fits, and needs no lowering, a name `this` stands in a parameter alone.
 use Rattle.std.proofs.Common.{◌≡◌, ◌∙◌, ℕ, suc, ◌==◌, Bool, true, false, ◌||◌, cond, List, [], ◌∷◌, length, Some, None, refl, sym, ap, ap₂, slice_get}
 use Rattle.std.proofs.lemmas.Bool.{eqb-true}
 use Rattle.std.specs.List.{list_any}
@@ -9,7 +9,7 @@ use Rattle.ecma_lex.specs.Keys.{is_reserved}
 use Rattle.ecma_tree.specs.declared.node.Node.{Node, out-Node}
 use Rattle.ecma_tree.specs.Laws.{HaveShapes}
 use Rattle.ecma_tree.specs.Sorted.{child_shapes, is_list}
-use Rattle.ecma_rules.specs.Children.{children_of as items_of, holds_of, kind_of}
+use Rattle.ecma_rules.specs.Children.{child_is, children_of as items_of, holds_of, kind_of, of_kind}
 use Rattle.ecma_rules.specs.Members.{is_misfit, is_special_constructor, is_stray_property, is_this_pattern, misplaces_this, misplaces_this_by}
 use Rattle.ecma_rules.specs.Rules.{fails_list, fails_member, fails_statement}
 use Rattle.ecma_fits.specs.declared.role.Role.{Role}
@@ -25,7 +25,7 @@ use Rattle.ecma_strip_scopes.proofs.Going.{parts-have}
 use Rattle.ecma_sources.specs.TypesAlone.{has_stray_receiver, is_lone_receiver, is_receiver}
 use Rattle.ecma_pipeline_runs.proofs.Clearing.{fits-below, fits-here, in-role}
 use Rattle.ecma_pipeline_runs.proofs.Nodes.{all-at, any-at, child-shape, neither}
-use Rattle.ecma_forms.specs.Forms.{is_later}
+use Rattle.ecma_forms.specs.Forms.{is_odd_by, is_unlowered_kind, names_this as has_this}
 use Rattle.ecma_text_sources.proofs.Quiet.{bound_unnamed, children_paramless, is_loud, is_open, is_param, is_parameter, is_parameters, is_paramless, is_special, list_calm, list_closed, list_unnamed, name_calm, names_this, not_this, of_by, of_child, of_cond, of_pattern, param_by, role_quiet}
 
 abbrev children_of : Node → List Node
@@ -111,7 +111,8 @@ IsFree n r = is_parameters r ≡ true → list_any is_this (children_of n) ≡ f
 never : (n : Node) (r : Role) → is_parameters r ≡ false → IsFree n r
 never n r h p = absurd (true-false p h)
 
-module _ (n : Node) (s : Shape) (w : Where) (shaped : HaveShapes (child_shapes (kind_of n) s (length (children_of n))) (children_of n)) (fits : FitsAt n w) (later : is_later (kind_of n) ≡ false) (free : IsFree n w.role) where
+module _ (n : Node) (s : Shape) (w : Where) (shaped : HaveShapes (child_shapes (kind_of n) s (length (children_of n))) (children_of n)) (fits : FitsAt n w) (low : is_unlowered_kind (kind_of n) ≡ false) (odd : is_odd_by (kind_of n) n ≡ false)
+    (free : IsFree n w.role) where
   abbrev At : ℕ → Node → Type 0
   At i c = slice_get (children_of n) i ≡ Some c
 
@@ -139,7 +140,7 @@ module _ (n : Node) (s : Shape) (w : Where) (shaped : HaveShapes (child_shapes (
       go false z p = absurd (true-false p refl)
 
   quiet : (k : Kind) → kind_of n ≡ k → is_special k ≡ false → (i : ℕ) → is_loud (In k i) ≡ false
-  quiet k e special i = role_quiet w.role k i (ap is_later (sym e) ∙ later) special
+  quiet k e special i = role_quiet w.role k i (ap is_unlowered_kind (sym e) ∙ low) special
 
   free_by : (k : Kind) → kind_of n ≡ k → (i : ℕ) (c : Node) → At i c → IsFree c (In k i)
   unfolding role_in
@@ -149,10 +150,32 @@ module _ (n : Node) (s : Shape) (w : Where) (shaped : HaveShapes (child_shapes (
   free_by kind.SetterProp e i c at =
       never c (In kind.SetterProp i) (of_cond is_parameters (i == 1) role.Parameter (at_child 2 i role.Parameter) refl (of_child is_parameters 2 i role.Parameter refl refl))
   free_by (kind.ArrowExpr a g) e i c at = arrow_child a g e i c at
+  free_by (kind.ImportNamedSpecifier t) e i c at = never c (In (kind.ImportNamedSpecifier t) i) (of_child is_parameters 1 i role.Key refl refl)
+  free_by (kind.ExportNamedSpecifier t) e i c at = never c role.Key refl
+  free_by kind.ExportNamespaceSpecifier e i c at = never c role.Key refl
   free_by k e i c at = never c (In k i) (neither (is_open (In k i)) (is_parameters (In k i)) (quiet k e refl i)).1
 
   pub child_free : (i : ℕ) (c : Node) → At i c → IsFree c (In (kind_of n) i)
   child_free = free_by (kind_of n) refl
+
+  -- ---- names of specifiers
+
+  specifier : (k : Kind) → kind_of n ≡ k → is_list k ≡ false → (i : ℕ) → is_parameter (In k i) ≡ false → (c : Node) → At i c → is_this_ident (kind_of c) ≡ false → is_receiver c ≡ false
+  specifier k e l i p c at ident =
+      both_other c ident (unparametric (ap is_list e ∙ l) i c at) (this_other c (where_in w n i) (below i c at) (ap (λ z. is_parameter (In z i)) e ∙ p))
+
+  module _ (k : Kind) (e : kind_of n ≡ k) (l : is_list k ≡ false) (h : has_this n ≡ false) where
+    names : (child_is is_this_ident n 0 ≡ false) × (child_is is_this_ident n 1 ≡ false)
+    names = neither (child_is is_this_ident n 0) (child_is is_this_ident n 1) h
+
+    first_name : is_parameter (In k 0) ≡ false → (c : Node) → At 0 c → is_receiver c ≡ false
+    first_name p c at = specifier k e l 0 p c at (sym (ap (of_kind is_this_ident) at) ∙ names.0)
+
+    second_name : is_parameter (In k 1) ≡ false → (c : Node) → At 1 c → is_receiver c ≡ false
+    second_name p c at = specifier k e l 1 p c at (sym (ap (of_kind is_this_ident) at) ∙ names.1)
+
+  named : (k : Kind) → kind_of n ≡ k → is_odd_by k n ≡ false
+  named k e = sym (ap (λ z. is_odd_by z n) e) ∙ odd
 
   -- ---- no stray name `this`
 
@@ -195,6 +218,23 @@ module _ (n : Node) (s : Shape) (w : Where) (shaped : HaveShapes (child_shapes (
   stray_by (kind.ArrowExpr a g) cs e is have =
       none_of is_receiver cs
       (λ i c at. other (kind.ArrowExpr a g) e refl i (of_child is_open 0 i role.Parameters refl refl) c (ap (λ z. slice_get z i) is ∙ at))
+  stray_by (kind.ImportNamedSpecifier t) [] e is have = absurd have
+  stray_by (kind.ImportNamedSpecifier t) (a ∷ []) e is have = absurd have.1
+  stray_by (kind.ImportNamedSpecifier t) (a ∷ b ∷ c ∷ cs) e is have = absurd have.1.1
+  stray_by (kind.ImportNamedSpecifier t) (a ∷ b ∷ []) e is have =
+      let k = kind.ImportNamedSpecifier t in
+      ap₂ (λ x y. x || (y || false)) (first_name k e refl (named k e) refl a (ap (λ z. slice_get z 0) is)) (second_name k e refl (named k e) refl b (ap (λ z. slice_get z 1) is))
+  stray_by (kind.ExportNamedSpecifier t) [] e is have = absurd have
+  stray_by (kind.ExportNamedSpecifier t) (a ∷ []) e is have = absurd have.1
+  stray_by (kind.ExportNamedSpecifier t) (a ∷ b ∷ c ∷ cs) e is have = absurd have.1.1
+  stray_by (kind.ExportNamedSpecifier t) (a ∷ b ∷ []) e is have =
+      let k = kind.ExportNamedSpecifier t in
+      ap₂ (λ x y. x || (y || false)) (first_name k e refl (named k e) refl a (ap (λ z. slice_get z 0) is)) (second_name k e refl (named k e) refl b (ap (λ z. slice_get z 1) is))
+  stray_by kind.ExportNamespaceSpecifier [] e is have = absurd have
+  stray_by kind.ExportNamespaceSpecifier (a ∷ b ∷ cs) e is have = absurd have.1
+  stray_by kind.ExportNamespaceSpecifier (a ∷ []) e is have =
+      let k = kind.ExportNamespaceSpecifier in
+      ap (λ x. x || false) (first_name k e refl (named k e) refl a (ap (λ z. slice_get z 0) is))
   stray_by k cs e is have =
       none_of is_receiver cs
       (λ i c at. other k e refl i (neither (is_open (In k i)) (is_parameters (In k i)) (quiet k e refl i)).0 c (ap (λ z. slice_get z i) is ∙ at))

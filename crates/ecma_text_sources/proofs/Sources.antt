@@ -1,4 +1,4 @@
--- What is read as a module is a source where each of its forms is taken and no name is declared again where it may not be.
+-- What is read as a module is a source where it needs no lowering and no name is declared again where it may not be.
 use Rattle.std.proofs.Common.{◌≡◌, ◌∙◌, List, ◌∷◌, map, refl, sym, ap, ap₂}
 use Rattle.ecma_kind.specs.declared.kind.Kind.{Kind}
 use Rattle.ecma_kind.specs.declared.kind.Kind.TheVariants as kind
@@ -12,7 +12,7 @@ use Rattle.ecma_plain.specs.Forms.{IsBareUnquestioned}
 use Rattle.ecma_text_plain.specs.Laws.{ReadLeavesAreBare}
 use Rattle.ecma_text_plain.proofs.Hashbangs.{read_utf8}
 use Rattle.ecma_scope.specs.Laws.{without_contexts}
-use Rattle.ecma_text_sources.specs.Laws.{ReadTreesAreRead, TakenTreesAreSources}
+use Rattle.ecma_text_sources.specs.Laws.{ReadTreesAreRead, TreesThatNeedNoLoweringAreSources}
 use Rattle.ecma_text_sources.proofs.TypesAlone.{types_alone}
 
 pub read_trees : WhatIsReadFits → ReadLeavesAreBare → ReadTreesAreRead
@@ -35,7 +35,7 @@ mutual
   each_stays none = refl
   each_stays (more a h) = ap₂ (λ n ns. n ∷ ns) (tree_stays a) (each_stays h)
 
-pub taken_sources : TakenTreesAreSources
-taken_sources tree is taken distinct = record { fits = is.fits; bare = tree_stays is.bare; distinct = distinct; types = types_alone tree is.fits taken }
+pub low_sources : TreesThatNeedNoLoweringAreSources
+low_sources tree is low distinct = record { fits = is.fits; bare = tree_stays is.bare; distinct = distinct; types = types_alone tree is.fits low }
 
-pub ruleset sources = (taken_sources)
+pub ruleset sources = (low_sources)

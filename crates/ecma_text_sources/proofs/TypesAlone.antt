@@ -1,4 +1,4 @@
--- In a tree that fits, and of which each form is taken, all that is TypeScript is types.
+-- In a tree that fits, and needs no lowering, all that is TypeScript is types.
 use Rattle.std.proofs.Common.{◌≡◌, ◌∙◌, ℕ, suc, Bool, true, false, ◌&&◌, not, List, [], ◌∷◌, Some, None, length, refl, sym, ap, slice_get}
 use Rattle.std.specs.List.{list_any}
 use Rattle.ecma_kind.specs.declared.kind.Kind.{Kind}
@@ -18,16 +18,16 @@ use Rattle.ecma_sources.specs.TypesAlone.{adds_types_alone, has_ambient_head, ha
 use Rattle.ecma_pipeline_runs.proofs.Clearing.{fits-below}
 use Rattle.ecma_pipeline_runs.proofs.Nodes.{StaysIn, alone-made, by-children, child-shape, not-false}
 use Rattle.ecma_rules.specs.Members.{has_body}
-use Rattle.ecma_forms.specs.Forms.{first_untaken, is_ambient_variable, is_later, is_odd_by}
+use Rattle.ecma_forms.specs.Forms.{first_unlowered, is_ambient_variable, is_odd_by, is_unlowered_kind}
 use Rattle.ecma_text_sources.proofs.Receivers.{IsFree, child_free, no_stray}
 use Rattle.ecma_text_sources.proofs.Staying.{stays_by, stays_is}
-use Rattle.ecma_text_sources.proofs.Taken.{not_later, not_odd, taken_below}
+use Rattle.ecma_text_sources.proofs.Taken.{low_below, not_odd, not_unlowered}
 use Rattle.ecma_tree.specs.Values.{is_value, value_by, values_in}
 use Rattle.ecma_tree.proofs.Valuing.{is_value-out}
 use Rattle.ecma_fits.proofs.Clauses.{none_unfit}
 use Rattle.ecma_fits.proofs.Walks.{neither_least}
 
-unlowered : (k : Kind) → is_later k ≡ false → is_lowered k ≡ false
+unlowered : (k : Kind) → is_unlowered_kind k ≡ false → is_lowered k ≡ false
 unlowered (kind.TsEnumDecl declare is_const) h = absurd (true-false refl h)
 unlowered kind.TsEnumMember h = absurd (true-false refl h)
 unlowered (kind.TsModuleDecl declare global) h = absurd (true-false refl h)
@@ -130,21 +130,21 @@ child_full k c full = by (stays c) refl
     by false e = gone_full c e
 
 abbrev IsAlone : Node → Type 0
-IsAlone n = (s : Shape) (w : Where) → HasShape s n → first_unfit_in n w ≡ None → IsFree n w.role → first_untaken n ≡ None → (adds_types_alone n ≡ true) × (lacks_body n ≡ false)
+IsAlone n = (s : Shape) (w : Where) → HasShape s n → first_unfit_in n w ≡ None → IsFree n w.role → first_unlowered n ≡ None → (adds_types_alone n ≡ true) × (lacks_body n ≡ false)
 
 layer_alone : (n : Node) → ((i : ℕ) (c : Node) → slice_get (out-Node n).children i ≡ Some c → IsAlone c) → IsAlone n
-layer_alone n below s w has fits free taken =
+layer_alone n below s w has fits free low =
     let k = kind_of n in
     let cs = (out-Node n).children in
     let shaped = (parts-have n s has).1 in
-    let odd = not_odd n taken in
+    let odd = not_odd n low in
     let each : (i : ℕ) (c : Node) → slice_get cs i ≡ Some c → StaysIn k c → (adds_types_alone c ≡ true) × (lacks_body c ≡ false) =
     λ i c at stay. (let shape = child-shape (child_shapes k s (length cs)) cs shaped i c at in
-    below i c at shape.0 (where_in w n i) shape.2 (fits-below w n fits i c at) (child_free n s w shaped fits (not_later n taken) free i c at) (taken_below n taken i c at stay)) in
-    let lowered : not (is_lowered k) ≡ true = ap not (unlowered k (not_later n taken)) in
+    below i c at shape.0 (where_in w n i) shape.2 (fits-below w n fits i c at) (child_free n s w shaped fits (not_unlowered n low) odd free i c at) (low_below n low i c at stay)) in
+    let lowered : not (is_lowered k) ≡ true = ap not (unlowered k (not_unlowered n low)) in
     let head : not (has_ambient_head k cs) ≡ true = ap not (no_ambient_head n s k cs refl shaped odd) in
     let bodies : not (has_bodiless k cs) ≡ true = ap not (no_bodiless k cs (none_lacks cs (λ i c at. child_full k c (λ stay. (each i c at stay).1)))) in
-    let strays : not (has_stray_receiver k cs) ≡ true = ap not (no_stray n s w shaped fits (not_later n taken) free) in
+    let strays : not (has_stray_receiver k cs) ≡ true = ap not (no_stray n s w shaped fits (not_unlowered n low) odd free) in
     let last : Bool = not (has_bodiless k cs) && not (has_stray_receiver k cs) in (
       alone-made n
           (and-both (not (is_lowered k)) (not (has_ambient_head k cs) && last) lowered
@@ -153,6 +153,6 @@ layer_alone n below s w has fits free taken =
       full_by n s k cs refl shaped odd (is_value-out n),
     )
 
-pub types_alone : (tree : Node) → Fits tree → first_untaken tree ≡ None → adds_types_alone tree ≡ true
-types_alone tree fits taken =
-    (by-children IsAlone layer_alone tree (one sort.Module) at_top fits.sorted (none_unfit tree fits) (λ p. absurd (true-false p refl)) taken).0
+pub types_alone : (tree : Node) → Fits tree → first_unlowered tree ≡ None → adds_types_alone tree ≡ true
+types_alone tree fits low =
+    (by-children IsAlone layer_alone tree (one sort.Module) at_top fits.sorted (none_unfit tree fits) (λ p. absurd (true-false p refl)) low).0

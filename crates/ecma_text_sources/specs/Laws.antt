@@ -5,7 +5,7 @@ use Rattle.ecma_tree.specs.declared.node.Node.{Node}
 use Rattle.ecma_grammar.specs.declared.production.Mode.{Mode}
 use Rattle.ecma_modules.specs.Modules.{reads_as}
 use Rattle.ecma_scope.specs.Conflicts.{redeclared}
-use Rattle.ecma_forms.specs.Forms.{first_untaken}
+use Rattle.ecma_forms.specs.Forms.{first_unlowered}
 use Rattle.ecma_sources.specs.Sources.{IsSource}
 use Rattle.ecma_plain.specs.Read.{IsRead}
 
@@ -13,6 +13,6 @@ use Rattle.ecma_plain.specs.Read.{IsRead}
 abbrev pub ReadTreesAreRead : Type 0
 ReadTreesAreRead = (text : List ℕ) (mode : Mode) (bound : ℕ) (tree : Node) → IsUtf8 text → length text < 2 ^ 32 → reads_as text mode bound ≡ Ok tree → IsRead tree
 
--- where each of its forms is taken, and no name is declared again where it may not be, it is a source
-abbrev pub TakenTreesAreSources : Type 0
-TakenTreesAreSources = (tree : Node) → IsRead tree → first_untaken tree ≡ None → redeclared tree ≡ [] → IsSource tree
+-- where no other pass has to lower one of its forms first, and no name is declared again where it may not be, it is a source
+abbrev pub TreesThatNeedNoLoweringAreSources : Type 0
+TreesThatNeedNoLoweringAreSources = (tree : Node) → IsRead tree → first_unlowered tree ≡ None → redeclared tree ≡ [] → IsSource tree

@@ -3,7 +3,7 @@
 //! Each function carries one law over the definitions, and does nothing. The laws are stated in `specs/Laws.antt`.
 #![tactic(auto)]
 
-ghost use Rattle.ecma_text_sources.specs.Laws.{ReadTreesAreRead, TakenTreesAreSources};
+ghost use Rattle.ecma_text_sources.specs.Laws.{ReadTreesAreRead, TreesThatNeedNoLoweringAreSources};
 
 use ecma_text_fits::what_is_read_fits;
 use ecma_text_plain::leaves_that_are_read_are_bare;
@@ -17,8 +17,8 @@ pub fn trees_that_are_read_are_read()
     leaves_that_are_read_are_bare();
 }
 
-/// Where each of its forms is taken and no name is declared again where it may not be, it is a source of a module that is written.
+/// Where no other pass has to lower one of its forms first, and no name is declared again where it may not be, it is a source of a module that is written.
 #[tactic(auto, using(crate::proofs::Sources::sources))]
-pub fn taken_trees_are_sources()
-    ensures { TakenTreesAreSources }
+pub fn trees_that_need_no_lowering_are_sources()
+    ensures { TreesThatNeedNoLoweringAreSources }
 {}

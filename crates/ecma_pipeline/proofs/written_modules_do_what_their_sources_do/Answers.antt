@@ -4,7 +4,8 @@ use Rattle.ecma_pipeline.proofs.written_modules_do_what_their_sources_do.Goals a
 pub returns : goal.returns
 returns c = written_modules (record {
   reads = c.trees_that_are_read_are_read.ensures;
-  sources = c.taken_trees_are_sources.ensures;
+  sources = c.trees_that_need_no_lowering_are_sources.ensures;
+  lowered = c.what_is_taken_needs_no_lowering.ensures;
   short = c.names_that_are_read_are_short.ensures;
   enclosed_read = c.enclosed_trees_are_read.ensures;
   enclosed_taken = c.enclosed_trees_are_taken.ensures;
