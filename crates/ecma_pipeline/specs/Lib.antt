@@ -1,3 +1,4 @@
 pub mod Ways
 pub mod Written
+pub mod Guessed
 pub mod Laws
