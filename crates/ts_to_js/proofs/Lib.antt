@@ -1,3 +1,4 @@
+pub mod Empty
 pub mod Utf8
 pub mod Pieces
 pub mod Runs
