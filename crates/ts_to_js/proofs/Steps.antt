@@ -1,14 +1,10 @@
--- Contexts enough for a tree without what the options drop, with its parentheses and its names bound, and what comes of it.
-use Rattle.std.proofs.Common.{◌≡◌, ◌≤◌, ◌+◌, ◌-◌, ◌∙◌, ℕ, List, None, Some, Ok, Err, refl, ap, sym, arith}
-use Rattle.std.specs.Prelude.{OnOk, Option, Result, Vec}
-use Rattle.std.specs.declared.alloc.Global.{Global}
-use Rattle.ecma_kind.specs.Sessions.{SessionState}
+-- Contexts enough for a tree without what the options drop, with its parentheses and its names bound.
+use Rattle.std.proofs.Common.{◌≡◌, ◌≤◌, ◌+◌, ◌-◌, ◌∙◌, ℕ, ap, sym, arith}
 use Rattle.ecma_kind.specs.declared.shapes.Sort.TheVariants as sort
 use Rattle.ecma_tree.specs.declared.node.Node.{Node}
 use Rattle.ecma_tree.specs.Sorted.{HasSort}
 use Rattle.ecma_tree.proofs.ShapeLaws.{contexts_keep_sorts}
 use Rattle.ecma_config.specs.declared.config.Config.{Config}
-use Rattle.ecma_modules.specs.Modules.{deepest, reads_as, typescript}
 use Rattle.ecma_scope.specs.Needs.{needed}
 use Rattle.ecma_scope.specs.Resolved.{contexts, resolved}
 use Rattle.ecma_scope.proofs.Unchanged.{keeps-sorts}
@@ -21,11 +17,6 @@ use Rattle.ecma_enclose.specs.Enclosing.{enclosed}
 use Rattle.ecma_enclose_fits.proofs.Whole.{trees_are_sorted}
 use Rattle.ecma_enclose_scopes.proofs.Counted.{take_as_many}
 use Rattle.ecma_hygiene_exists.proofs.Leaving.{leave-sixteen}
-use Rattle.ts_to_js.specs.declared.error.TsError.{TsError}
-use Rattle.ts_to_js.specs.declared.error.TsError.TheVariants as error
-use Rattle.ts_to_js.specs.Answer.{AnswersBy}
-use Rattle.ts_to_js.specs.Conversion.{ComesOf, HasDrawnFor, Leaves}
-use Rattle.ts_to_js.specs.Refusals.{refused, refused_early, refused_late}
 use Rattle.ts_to_js.specs.Stages.{kept}
 use Rattle.ts_to_js.proofs.Empty.{empty}
 
@@ -57,10 +48,3 @@ module _ (law : ElidedSourcesTakeAsManyContexts) (config : Config) (left : ℕ) 
 
   pub left-bound : (now : ℕ) → now + (contexts bound + 2) ≡ left → now + (contexts tree + 2) ≡ left
   left-bound now given = ap (λ n. now + (n + 2)) (sym same-contexts) ∙ given
-
--- ---- what comes of a tree
-
--- a refusal, told early
-pub refused-answers : (refusal : TsError) (config : Config) (left : ℕ) (tree : Node) → refused_early left tree ≡ Some refusal → AnswersBy (Err refusal) (ComesOf config left (refused config left tree) tree)
-refused-answers error.TooLong config left tree is = ?
-refused-answers _ config left tree is = ?

@@ -201,12 +201,7 @@ fn written(
 
 /// Takes out of a tree what the options drop of its imports and exports, encloses what would be read as something else, binds names with types round them, and
 /// gives the tree its bindings: if no name is declared again, and none is exported that is not declared or would be captured. Says how many contexts are left then.
-fn make_ready(
-    alloc: Global,
-    left: u32,
-    tree: &mut Module,
-    config: &Config,
-) -> Result<u32, TsError>
+fn make_ready(alloc: Global, left: u32, tree: &mut Module, config: &Config) -> Result<u32, TsError>
     requires sorted { HasSort sort.Module tree.old }
     requires enough { needed tree.old ≤ left }
     ensures tree { OnOk result (tree.new ≡ ready_of config.now left tree.old) }
@@ -225,12 +220,7 @@ fn make_ready(
 }
 
 /// Takes out of a tree what the options drop of its imports and exports.
-fn drop_unused(
-    alloc: Global,
-    left: u32,
-    tree: &mut Module,
-    config: &Config,
-) -> Result<(), NoMemory>
+fn drop_unused(alloc: Global, left: u32, tree: &mut Module, config: &Config) -> Result<(), NoMemory>
     requires sorted { HasSort sort.Module tree.old }
     requires enough { needed tree.old ≤ left }
     ensures tree { OnOk result (tree.new ≡ kept config.now left tree.old) }
