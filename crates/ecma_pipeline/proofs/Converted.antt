@@ -6,6 +6,7 @@ use Rattle.ecma_tree.specs.Sorted.{HasSort}
 use Rattle.ecma_config.specs.declared.config.Config.{Config}
 use Rattle.ecma_elide_sources.specs.Laws.{ElidedSourcesAreRead, ElidedSourcesNeedNoLowering, ElidedSourcesTakeAsManyContexts, ElidingKeepsNamesShort, ElidingMakesNoNames}
 use Rattle.ecma_elide_sources.specs.Sources.{elided_source}
+use Rattle.ecma_fits.specs.Fitting.{Fits}
 use Rattle.ecma_lower.specs.Marking.{has_module_declaration}
 use Rattle.ecma_modules.specs.Modules.{typescript}
 use Rattle.ecma_pipeline_names.specs.Laws.{NamesThatAreReadAreShort}
@@ -33,13 +34,13 @@ short_names : (n : ℕ) → n < 2 ^ 32 - 64 → n + 64 < 4294967296
 short_names n short = omega arith
 
 -- contexts enough for a module are enough for what the options leave of it
-elided_given : ElidedSourcesTakeAsManyContexts → (config : Config) (unresolved top left : ℕ) (source : Node) → HasSort sort.Module source → AreGiven unresolved top left source
+elided_given : ElidedSourcesTakeAsManyContexts → (config : Config) (unresolved top left : ℕ) (source : Node) → Fits source → AreGiven unresolved top left source
     → AreGiven unresolved top left (elided_source config unresolved top left source)
-elided_given law config unresolved top left source sorted given = record {
+elided_given law config unresolved top left source fits given = record {
   unresolved_above = given.unresolved_above;
   top_above = given.top_above;
   apart = given.apart;
-  enough = subst (λ (n : ℕ). n ≤ left) (sym (law config unresolved top left source sorted)) given.enough;
+  enough = subst (λ (n : ℕ). n ≤ left) (sym (law config unresolved top left source fits)) given.enough;
 }
 
 pub converted_modules : Laws → ConvertedModulesDoWhatTheirSourcesDo
@@ -54,7 +55,7 @@ converted_modules laws config unresolved top left bound text source final utf8 s
     (record {
       lowered = laws.elided_lowered config unresolved top left source sorted is.lowered;
       distinct = is.distinct;
-      given = elided_given laws.elided_contexts config unresolved top left source sorted is.given;
+      given = elided_given laws.elided_contexts config unresolved top left source read.fits is.given;
       uncaptured = is.uncaptured;
       hygienic = is.hygienic;
     })

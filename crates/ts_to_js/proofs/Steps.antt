@@ -1,5 +1,5 @@
 -- Contexts enough for a tree without what the options drop, with its parentheses and its names bound.
-use Rattle.std.proofs.Common.{◌≡◌, ◌≤◌, ◌+◌, ◌-◌, ◌∙◌, ℕ, ap, sym, arith}
+use Rattle.std.proofs.Common.{◌≡◌, ◌≤◌, ◌<◌, ◌+◌, ◌^◌, ◌-◌, ◌∙◌, ℕ, ap, sym, arith}
 use Rattle.ecma_kind.specs.declared.shapes.Sort.TheVariants as sort
 use Rattle.ecma_tree.specs.declared.node.Node.{Node}
 use Rattle.ecma_tree.specs.Sorted.{HasSort}
@@ -16,6 +16,7 @@ use Rattle.ecma_elide_sources.specs.Laws.{ElidedSourcesTakeAsManyContexts}
 use Rattle.ecma_enclose.specs.Enclosing.{enclosed}
 use Rattle.ecma_enclose_fits.proofs.Whole.{trees_are_sorted}
 use Rattle.ecma_enclose_scopes.proofs.Counted.{take_as_many}
+use Rattle.ecma_fits.specs.Fitting.{Fits}
 use Rattle.ecma_hygiene_exists.proofs.Leaving.{leave-sixteen}
 use Rattle.ts_to_js.specs.Stages.{kept}
 use Rattle.ts_to_js.proofs.Empty.{empty}
@@ -26,6 +27,9 @@ enough-two left tree enough =
     let sixteen : contexts tree + 16 ≤ needed tree = leave-sixteen tree in
     omega arith
 
+pub not-long : (n : ℕ) → n ≤ 4194304 → n < 2 ^ 32
+not-long n short = omega arith
+
 -- ---- without what the options drop, with its parentheses and its names bound
 
 kept-sorted : (config : Config) (left : ℕ) (tree : Node) → HasSort sort.Module tree → HasSort sort.Module (kept config left tree)
@@ -34,11 +38,11 @@ kept-sorted config left tree sorted =
     (contexts_keep_sorts empty (elided config r) sort.Module).1 (elided_modules_are_sorted config r ((keeps-sorts left (left - 1) (left - 2) tree sort.Module).1 sorted))
 
 -- it takes as many contexts
-module _ (law : ElidedSourcesTakeAsManyContexts) (config : Config) (left : ℕ) (tree bound : Node) (sorted : HasSort sort.Module tree) (is : bound ≡ with_bound_names (enclosed (kept config left tree))) where
+module _ (law : ElidedSourcesTakeAsManyContexts) (config : Config) (left : ℕ) (tree bound : Node) (fits : Fits tree) (is : bound ≡ with_bound_names (enclosed (kept config left tree))) where
   pub same-contexts : contexts bound ≡ contexts tree
   same-contexts =
-      let rest : HasSort sort.Module (kept config left tree) = kept-sorted config left tree sorted in
-      ap contexts is ∙ (resolve_alike (enclosed (kept config left tree)) (trees_are_sorted (kept config left tree) rest)).count ∙ take_as_many (kept config left tree) rest ∙ law config left (left - 1) (left - 2) tree sorted
+      let rest : HasSort sort.Module (kept config left tree) = kept-sorted config left tree fits.sorted in
+      ap contexts is ∙ (resolve_alike (enclosed (kept config left tree)) (trees_are_sorted (kept config left tree) rest)).count ∙ take_as_many (kept config left tree) rest ∙ law config left (left - 1) (left - 2) tree fits
 
   pub enough-bound : needed tree ≤ left → contexts bound + 2 ≤ left
   enough-bound enough =

@@ -1,8 +1,7 @@
 //! The conversion: the bytes of a TypeScript module to those of a JavaScript module, pass by pass.
 ghost use Rattle.std.specs.Prelude.{◌≡◌, ◌<◌, ◌≤◌, ◌↔◌, ◌+◌, ◌-◌, ◌⊎◌, length, true, false, None, Ok, MatchOption, Option, IfErr, IfOk, IsOk, IsTrue, OnErr, OnOk};
 ghost use Rattle.std.specs.Str.{is_utf8};
-ghost use Rattle.ecma_kind.specs.declared.shapes.Sort.TheVariants as sort;
-ghost use Rattle.ecma_tree.specs.Sorted.{HasSort};
+ghost use Rattle.ecma_fits.specs.Fitting.{Fits};
 ghost use Rattle.ecma_hygiene.specs.Hygienic.{IsHygienic};
 ghost use Rattle.ecma_lower.specs.Marking.{marked};
 ghost use Rattle.ecma_scope.specs.Needs.{needed};
@@ -33,6 +32,7 @@ use ecma_scope::{check_scopes, needs, resolve};
 use ecma_strip::strip_type;
 use ecma_text::read_module;
 use ecma_text_contexts::needed_is_bounded_by_the_text;
+use ecma_text_sources::trees_that_are_read_are_read;
 use ecma_tree::{Module, NoMemory, PassError, Session, SyntaxContext};
 use std::alloc::Global;
 use std::mem::ManuallyDrop;
@@ -99,6 +99,7 @@ fn convert_text(
     ensures text { AnswersBy result (ComesOfReading options.now.config session.old.left (reads_as text.now typescript deepest)) }
     ensures session { Leaves result text.now session.old session.new }
 {
+    trees_that_are_read_are_read();
     let tree = read_module(alloc, text)?;
     convert_tree(alloc, session, tree, text, options)
 }
@@ -113,7 +114,7 @@ fn convert_tree(
 ) -> Result<Vec<u8>, TsError>
     requires short { length text.now ≤ LIMIT }
     requires read { reads_as text.now typescript deepest ≡ Ok tree }
-    requires sorted { HasSort sort.Module tree }
+    requires fits { Fits tree }
     ensures text { AnswersBy result (ComesOf options.now.config session.old.left (refused options.now.config session.old.left tree) tree) }
     ensures session { Leaves result text.now session.old session.new }
 {
@@ -164,7 +165,7 @@ fn convert_accepted(
     tree: Module,
     options: &Options,
 ) -> Result<Vec<u8>, TsError>
-    requires sorted { HasSort sort.Module tree }
+    requires fits { Fits tree }
     requires enough { needed tree ≤ session.old.left }
     ensures text { AnswersBy result (ComesOf options.now.config session.old.left (refused_late options.now.config session.old.left tree) tree) }
     ensures drawn { OnOk result (HasDrawnFor tree session.old session.new) }
@@ -185,7 +186,7 @@ fn written(
     tree: &mut Module,
     config: &Config,
 ) -> Result<Vec<u8>, TsError>
-    requires sorted { HasSort sort.Module tree.old }
+    requires fits { Fits tree.old }
     requires enough { needed tree.old ≤ session.old.left }
     ensures text { AnswersBy result (ComesOf config.now session.old.left (refused_late config.now session.old.left tree.old) tree.old) }
     ensures drawn { OnOk result (HasDrawnFor tree.old session.old session.new) }
@@ -202,7 +203,7 @@ fn written(
 /// Takes out of a tree what the options drop of its imports and exports, encloses what would be read as something else, binds names with types round them, and
 /// gives the tree its bindings: if no name is declared again, and none is exported that is not declared or would be captured. Says how many contexts are left then.
 fn make_ready(alloc: Global, left: u32, tree: &mut Module, config: &Config) -> Result<u32, TsError>
-    requires sorted { HasSort sort.Module tree.old }
+    requires fits { Fits tree.old }
     requires enough { needed tree.old ≤ left }
     ensures tree { OnOk result (tree.new ≡ ready_of config.now left tree.old) }
     ensures left { IfOk result (λ now. now + (contexts tree.old + 2) ≡ left) }
@@ -221,7 +222,7 @@ fn make_ready(alloc: Global, left: u32, tree: &mut Module, config: &Config) -> R
 
 /// Takes out of a tree what the options drop of its imports and exports.
 fn drop_unused(alloc: Global, left: u32, tree: &mut Module, config: &Config) -> Result<(), NoMemory>
-    requires sorted { HasSort sort.Module tree.old }
+    requires fits { Fits tree.old }
     requires enough { needed tree.old ≤ left }
     ensures tree { OnOk result (tree.new ≡ kept config.now left tree.old) }
 {
