@@ -1,13 +1,13 @@
 //! The conversion: the bytes of a TypeScript module to those of a JavaScript module, pass by pass.
 ghost use Rattle.std.specs.Prelude.{◌≡◌, ◌<◌, ◌≤◌, ◌↔◌, ◌+◌, ◌-◌, ◌⊎◌, length, true, false, None, Ok, MatchOption, Option, IfErr, IfOk, IsOk, IsTrue, OnErr, OnOk};
 ghost use Rattle.std.specs.Str.{is_utf8};
-ghost use Rattle.ecma_fits.specs.Fitting.{Fits};
 ghost use Rattle.ecma_hygiene.specs.Hygienic.{IsHygienic};
 ghost use Rattle.ecma_lower.specs.Marking.{marked};
 ghost use Rattle.ecma_scope.specs.Needs.{needed};
 ghost use Rattle.ecma_scope.specs.Resolved.{contexts, resolved};
 ghost use Rattle.ecma_strip.specs.Stripping.{stripped};
 ghost use Rattle.ecma_modules.specs.Modules.{deepest, reads_as, typescript};
+ghost use Rattle.ecma_plain.specs.Read.{IsRead};
 ghost use Rattle.ts_to_js.specs.Answer.{AnswersBy};
 ghost use Rattle.ts_to_js.specs.Conversion.{ComesOf, ComesOfReading, HasDrawnFor, IsConverted, Leaves};
 ghost use Rattle.ts_to_js.specs.Headline.{IsConversion, IsValid};
@@ -16,6 +16,7 @@ ghost use Rattle.ts_to_js.specs.Stages.{kept, ready_of};
 
 use crate::contexts::{draw_to, drop_contexts};
 use crate::error::TsError;
+use crate::losing::may_lose;
 use crate::options::Options;
 use ecma_bind::bind_names;
 use ecma_config::Config;
@@ -114,7 +115,7 @@ fn convert_tree(
 ) -> Result<Vec<u8>, TsError>
     requires short { length text.now ≤ LIMIT }
     requires read { reads_as text.now typescript deepest ≡ Ok tree }
-    requires fits { Fits tree }
+    requires source { IsRead tree }
     ensures text { AnswersBy result (ComesOf options.now.config session.old.left (refused options.now.config session.old.left tree) tree) }
     ensures session { Leaves result text.now session.old session.new }
 {
@@ -165,7 +166,7 @@ fn convert_accepted(
     tree: Module,
     options: &Options,
 ) -> Result<Vec<u8>, TsError>
-    requires fits { Fits tree }
+    requires source { IsRead tree }
     requires enough { needed tree ≤ session.old.left }
     ensures text { AnswersBy result (ComesOf options.now.config session.old.left (refused_late options.now.config session.old.left tree) tree) }
     ensures drawn { OnOk result (HasDrawnFor tree session.old session.new) }
@@ -186,7 +187,7 @@ fn written(
     tree: &mut Module,
     config: &Config,
 ) -> Result<Vec<u8>, TsError>
-    requires fits { Fits tree.old }
+    requires source { IsRead tree.old }
     requires enough { needed tree.old ≤ session.old.left }
     ensures text { AnswersBy result (ComesOf config.now session.old.left (refused_late config.now session.old.left tree.old) tree.old) }
     ensures drawn { OnOk result (HasDrawnFor tree.old session.old session.new) }
@@ -203,7 +204,7 @@ fn written(
 /// Takes out of a tree what the options drop of its imports and exports, encloses what would be read as something else, binds names with types round them, and
 /// gives the tree its bindings: if no name is declared again, and none is exported that is not declared or would be captured. Says how many contexts are left then.
 fn make_ready(alloc: Global, left: u32, tree: &mut Module, config: &Config) -> Result<u32, TsError>
-    requires fits { Fits tree.old }
+    requires source { IsRead tree.old }
     requires enough { needed tree.old ≤ left }
     ensures tree { OnOk result (tree.new ≡ ready_of config.now left tree.old) }
     ensures left { IfOk result (λ now. now + (contexts tree.old + 2) ≡ left) }
@@ -220,12 +221,15 @@ fn make_ready(alloc: Global, left: u32, tree: &mut Module, config: &Config) -> R
     Ok(given.left)
 }
 
-/// Takes out of a tree what the options drop of its imports and exports.
+/// Takes out of a tree what the options drop of its imports and exports. Where they drop nothing, or nothing stands there that may go, nothing is done.
 fn drop_unused(alloc: Global, left: u32, tree: &mut Module, config: &Config) -> Result<(), NoMemory>
-    requires fits { Fits tree.old }
+    requires source { IsRead tree.old }
     requires enough { needed tree.old ≤ left }
     ensures tree { OnOk result (tree.new ≡ kept config.now left tree.old) }
 {
+    if config.verbatim_module_syntax || !may_lose(tree) {
+        return Ok(());
+    }
     resolve_names(alloc, left, tree)?;
     elide(alloc, config, tree)?;
     drop_contexts(tree);

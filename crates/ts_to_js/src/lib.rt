@@ -5,6 +5,7 @@ mod contexts;
 mod convert;
 mod error;
 mod host;
+mod losing;
 mod options;
 mod program;
 mod report;
