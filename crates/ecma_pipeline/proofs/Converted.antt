@@ -10,7 +10,7 @@ use Rattle.ecma_fits.specs.Fitting.{Fits}
 use Rattle.ecma_lower.specs.Marking.{has_module_declaration}
 use Rattle.ecma_modules.specs.Modules.{typescript}
 use Rattle.ecma_pipeline_names.specs.Laws.{NamesThatAreReadAreShort}
-use Rattle.ecma_pipeline.specs.Guessed.{NamesThatAreReadStandInTheSource}
+use Rattle.ecma_text_spans.specs.Laws.{NamesThatAreReadStandInTheSource}
 use Rattle.ecma_plain.specs.Read.{IsRead}
 use Rattle.ecma_scope.specs.Resolved.{AreGiven}
 use Rattle.ecma_text_sources.specs.Laws.{ReadTreesAreRead}
@@ -51,7 +51,7 @@ converted_modules laws config unresolved top left bound text source final utf8 s
     laws.written config.no_empty_export (has_module_declaration source) unresolved top left left_of final
     (laws.elided_read config unresolved top left source read)
     (laws.elided_short config unresolved top left source sorted (laws.short text typescript bound source (short_names (length text) short) reads))
-    (laws.elided_made config unresolved top left source sorted (laws.made text typescript bound source reads))
+    (laws.elided_made config unresolved top left source sorted (laws.made text typescript bound source utf8 reads))
     (record {
       lowered = laws.elided_lowered config unresolved top left source sorted is.lowered;
       distinct = is.distinct;

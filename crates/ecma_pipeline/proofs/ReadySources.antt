@@ -2,7 +2,7 @@
 use Rattle.std.proofs.Common.{◌≡◌, ◌∙◌, ℕ, false, [], None, sym, subst}
 use Rattle.ecma_tree.specs.declared.node.Node.{Node}
 use Rattle.ecma_fits.specs.Fitting.{Fits}
-use Rattle.ecma_forms.specs.Forms.{first_untaken}
+use Rattle.ecma_forms.specs.Forms.{first_unlowered}
 use Rattle.ecma_scope.specs.Conflicts.{Surrounding, nothing, redeclared}
 use Rattle.ecma_scope.specs.Resolved.{AreGiven, nowhere, resolved}
 use Rattle.ecma_scope.specs.declared.role.Role.TheVariants as role
@@ -11,7 +11,7 @@ use Rattle.ecma_scope_fits.specs.Laws.{ResolvedTreesFitAlike}
 use Rattle.ecma_bind.specs.Binding.{with_bound_names}
 use Rattle.ecma_bind_fits.specs.Laws.{BoundNamesArePlain}
 use Rattle.ecma_bind_scopes.specs.Laws.{BoundNamesResolveAlike}
-use Rattle.ecma_bind_sources.specs.Laws.{BoundTreesAreRead, BoundTreesAreTaken}
+use Rattle.ecma_bind_sources.specs.Laws.{BoundTreesAreRead, BoundTreesNeedNoLowering}
 use Rattle.ecma_bind_sources.proofs.Sources.{sources_are_sources}
 use Rattle.ecma_strip_fits.specs.Targets.{HasPlainTargets}
 use Rattle.ecma_strip_conflicts.proofs.Contexts.{told}
@@ -20,11 +20,11 @@ use Rattle.ecma_hygiene_scopes.specs.Lasting.{KeepsScopesApart}
 use Rattle.ecma_hygiene_scopes.specs.Laws.{ResolvedKeepsScopesApart}
 use Rattle.ecma_plain.specs.Read.{IsRead}
 use Rattle.ecma_sources.specs.Sources.{IsSource}
-use Rattle.ecma_text_sources.specs.Laws.{TakenTreesAreSources}
+use Rattle.ecma_text_sources.specs.Laws.{TreesThatNeedNoLoweringAreSources}
 use Rattle.ecma_ready.specs.Ready.{HasOwnContexts, IsReady}
 use Rattle.ecma_pipeline_names.specs.Laws.{BindingKeepsNamesShort, ContextsKeepNamesShort}
-use Rattle.ecma_pipeline_plain.proofs.Leaving.{taken_leaves}
-use Rattle.ecma_pipeline_plain.proofs.Untaken.{resolved_taken}
+use Rattle.ecma_pipeline_plain.proofs.Leaving.{low_leaves}
+use Rattle.ecma_pipeline_plain.proofs.Untaken.{resolved_low}
 use Rattle.ecma_pipeline_plain.proofs.WrittenTexts.{texts_resolved}
 use Rattle.ecma_pipeline_runs.proofs.Contexts.{resolved-adds-types}
 use Rattle.ecma_pipeline_runs.proofs.Recounted.{has-own-contexts, says-its-scopes}
@@ -33,8 +33,8 @@ use Rattle.ecma_pipeline.proofs.Runs.{bound_given}
 
 pub record Laws : Type 0 where
   pub reads : BoundTreesAreRead
-  pub takes : BoundTreesAreTaken
-  pub sources : TakenTreesAreSources
+  pub lowered : BoundTreesNeedNoLowering
+  pub sources : TreesThatNeedNoLoweringAreSources
   pub alike : BoundNamesResolveAlike
   pub plain : BoundNamesArePlain
   pub contexts : ResolvedTreesFitAlike
@@ -45,7 +45,7 @@ pub record Laws : Type 0 where
 abbrev at_root : Surrounding
 at_root = record { role = role.Root; around = nothing }
 
-module _ (laws : Laws) (unresolved top left : ℕ) (source : Node) (read : IsRead source) (short : NoneLong source) (taken : first_untaken source ≡ None) (clear : redeclared source ≡ []) (given : AreGiven unresolved top left source) where
+module _ (laws : Laws) (unresolved top left : ℕ) (source : Node) (read : IsRead source) (short : NoneLong source) (low : first_unlowered source ≡ None) (clear : redeclared source ≡ []) (given : AreGiven unresolved top left source) where
   abbrev bound : Node
   bound = with_bound_names source
 
@@ -55,11 +55,11 @@ module _ (laws : Laws) (unresolved top left : ℕ) (source : Node) (read : IsRea
   bound_read : IsRead bound
   bound_read = laws.reads source read
 
-  bound_taken : first_untaken bound ≡ None
-  bound_taken = laws.takes source taken
+  bound_low : first_unlowered bound ≡ None
+  bound_low = laws.lowered source low
 
   bound_source : IsSource bound
-  bound_source = sources_are_sources source (laws.sources source read taken clear)
+  bound_source = sources_are_sources source (laws.sources source read low clear)
 
   enough : AreGiven unresolved top left bound
   enough = bound_given unresolved top left source read.fits.sorted given
@@ -85,7 +85,7 @@ module _ (laws : Laws) (unresolved top left : ℕ) (source : Node) (read : IsRea
     fits = fits;
     targets = targets;
     types = resolved-adds-types changes-contexts unresolved top left bound bound_source.types;
-    forms = taken_leaves false r (resolved_taken unresolved top left bound bound_taken);
+    forms = low_leaves false r (resolved_low unresolved top left bound bound_low);
     scopes = says-its-scopes unresolved left r keeps;
     free_inner = keeps.there;
     distinct = distinct;
@@ -97,5 +97,5 @@ module _ (laws : Laws) (unresolved top left : ℕ) (source : Node) (read : IsRea
   own = has-own-contexts unresolved left r keeps
 
 pub sources_are_ready : Laws → BoundSourcesAreReady
-sources_are_ready laws unresolved top left source read short taken clear given =
-    (ready laws unresolved top left source read short taken clear given, own laws unresolved top left source read short taken clear given)
+sources_are_ready laws unresolved top left source read short low clear given =
+    (ready laws unresolved top left source read short low clear given, own laws unresolved top left source read short low clear given)

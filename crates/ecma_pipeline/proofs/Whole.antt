@@ -9,8 +9,7 @@ use Rattle.ecma_bind_sources.specs.Laws.{BoundTreesAreRead}
 use Rattle.ecma_enclose.specs.Enclosing.{enclosed}
 use Rattle.ecma_enclose_runs.specs.Laws.{EnclosedTreesRunAlike}
 use Rattle.ecma_enclose_scopes.specs.Laws.{EnclosedTreesDeclareAlike, EnclosedTreesTakeAsManyContexts}
-use Rattle.ecma_enclose_sources.specs.Laws.{EnclosedTreesAreRead}
-use Rattle.ecma_pipeline.specs.Guessed.{EnclosedTreesNeedNoLowering}
+use Rattle.ecma_enclose_sources.specs.Laws.{EnclosedTreesAreRead, EnclosedTreesNeedNoLowering}
 use Rattle.ecma_exports.specs.Exports.{first_captured}
 use Rattle.ecma_exports_hygiene.specs.Laws.{ExportsThatAreNotCapturedKeepTheirTexts}
 use Rattle.ecma_forms.specs.Forms.{first_unlowered}
@@ -34,7 +33,7 @@ use Rattle.ecma_plain.specs.Read.{IsRead}
 use Rattle.ecma_sources.specs.Sources.{IsReading}
 use Rattle.ecma_strip.specs.Stripping.{stripped}
 use Rattle.ecma_pipeline_interface.specs.Laws.{BoundSourcesHaveTheirInterface, WrittenTreesHaveTheirInterface}
-use Rattle.ecma_pipeline.specs.Guessed.{BindingMakesNoNames, ContextsMakeNoNames, EnclosingMakesNoNames}
+use Rattle.ecma_pipeline_spans.specs.Laws.{BindingMakesNoNames, ContextsMakeNoNames, EnclosingMakesNoNames}
 use Rattle.ecma_ready.specs.Ready.{HasOwnContexts, IsReady}
 use Rattle.ecma_pipeline.specs.Laws.{BoundSourcesAreReady, BoundSourcesRunAlike, ReadyTreesAreWritten, WrittenModulesDoWhatTheirSourcesDo}
 use Rattle.ecma_pipeline.specs.Ways.{DoesWhatItsSourceDoes, IsWrittenFor, final_text}
@@ -125,7 +124,7 @@ module _ (laws : Laws) (no_empty_export was_module : Bool) (unresolved top left 
 
   keeps : KeepsExportedTexts (final_text is.hygienic) (stripped all)
   keeps =
-      laws.keeps false unresolved all is.hygienic.names all_ready (laws.marked_made no_empty_export was_module whole whole_sorted whole_made)
+      laws.keeps false unresolved all is.hygienic.names all_ready all_own (laws.marked_made no_empty_export was_module whole whole_sorted whole_made)
       (laws.marked_captured no_empty_export was_module unresolved whole whole_sorted ∙ is.uncaptured) texts.0
 
   result : DoesWhatItsTreeDoes false all final

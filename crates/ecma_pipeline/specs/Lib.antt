@@ -1,4 +1,3 @@
 pub mod Ways
 pub mod Written
-pub mod Guessed
 pub mod Laws

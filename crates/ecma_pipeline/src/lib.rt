@@ -4,7 +4,7 @@
 //!
 //! | step | pass | its laws |
 //! |---|---|---|
-//! | A text is read as a module: it fits, and where nothing of it has to be lowered it is a source of what is written. | `ecma_text` | `ecma_text_sorts`, `ecma_text_leaves`, `ecma_text_fits`, `ecma_text_plain`, `ecma_text_sources`, `ecma_text_contexts`, `ecma_text_runs`; `ecma_pipeline_names` |
+//! | A text is read as a module: it fits, and where nothing of it has to be lowered it is a source of what is written. | `ecma_text` | `ecma_text_sorts`, `ecma_text_leaves`, `ecma_text_fits`, `ecma_text_plain`, `ecma_text_sources`, `ecma_text_contexts`, `ecma_text_runs`, `ecma_text_spans`; `ecma_pipeline_names`, `ecma_pipeline_spans` |
 //! | What the options drop of its imports and exports goes. | `ecma_elide` | `ecma_elide_fits`, `ecma_elide_sources` |
 //! | What would be read as a directive, or as `async` of an arrow function, gets parentheses. | `ecma_enclose` | `ecma_enclose_fits`, `ecma_enclose_scopes`, `ecma_enclose_runs`, `ecma_enclose_sources` |
 //! | Names with types round them are bound. | `ecma_bind` | `ecma_bind_fits`, `ecma_bind_scopes`, `ecma_bind_runs`, `ecma_bind_sources` |
@@ -29,7 +29,7 @@ ghost use Rattle.ecma_pipeline.specs.Laws.{BoundSourcesAreReady, BoundSourcesRun
 
 use ecma_bind_fits::bound_names_are_plain;
 use ecma_bind_scopes::bound_names_do_not_matter_to_scopes;
-use ecma_bind_sources::{bound_trees_are_read, bound_trees_are_taken};
+use ecma_bind_sources::{bound_trees_are_read, bound_trees_need_no_lowering};
 use ecma_elide_sources::{
     elided_sources_are_read, elided_sources_need_no_lowering, elided_sources_take_as_many_contexts,
     eliding_keeps_names_short, eliding_makes_no_names,
@@ -49,13 +49,14 @@ use ecma_pipeline_interface::{
     bound_sources_have_their_interface, written_trees_have_their_interface,
 };
 use ecma_pipeline_names::{
-    binding_keeps_names_short, binding_makes_no_names, contexts_keep_names_short,
-    contexts_make_no_names, enclosing_keeps_names_short, enclosing_makes_no_names,
-    names_that_are_read_are_short, names_that_are_read_stand_in_the_source,
-    stripping_keeps_names_short,
+    binding_keeps_names_short, contexts_keep_names_short, enclosing_keeps_names_short,
+    names_that_are_read_are_short, stripping_keeps_names_short,
 };
 use ecma_pipeline_plain::ready_trees_are_plain;
 use ecma_pipeline_runs::passes_keep_runs;
+use ecma_pipeline_spans::{
+    binding_makes_no_names, contexts_make_no_names, enclosing_makes_no_names,
+};
 use ecma_round_trip_literals::what_fits_and_is_plain_is_read_again;
 use ecma_scope_congruence::{
     parentheses_do_not_matter_to_conflicts, spans_do_not_matter_to_conflicts,
@@ -67,7 +68,8 @@ use ecma_source_texts::{
     source_texts_do_not_matter_to_parentheses, source_texts_do_not_matter_to_runs,
 };
 use ecma_strip_fits::stripping_keeps_fits;
-use ecma_text_sources::{taken_trees_are_sources, trees_that_are_read_are_read};
+use ecma_text_sources::{trees_that_are_read_are_read, trees_that_need_no_lowering_are_sources};
+use ecma_text_spans::names_that_are_read_stand_in_the_source;
 
 /// What is written for a module, in which nothing has to be lowered, and which without what the options drop declares no name again where it may not, and has no
 /// exported name that is captured, is read again as a plain module, of the tree that was written, declares none again either, has the imports and exports that the options
@@ -139,8 +141,8 @@ pub fn bound_sources_are_ready()
     ensures { BoundSourcesAreReady }
 {
     bound_trees_are_read();
-    bound_trees_are_taken();
-    taken_trees_are_sources();
+    bound_trees_need_no_lowering();
+    trees_that_need_no_lowering_are_sources();
     bound_names_do_not_matter_to_scopes();
     bound_names_are_plain();
     contexts_do_not_matter_to_fits();

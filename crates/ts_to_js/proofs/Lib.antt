@@ -1,9 +1,7 @@
-pub mod Empty
 pub mod Utf8
 pub mod Pieces
 pub mod Runs
 pub mod Accepting
-pub mod Losing
 pub mod Steps
 pub mod Answering
 pub mod Conversions

@@ -19,7 +19,6 @@ use Rattle.ecma_enclose_scopes.proofs.Counted.{take_as_many}
 use Rattle.ecma_fits.specs.Fitting.{Fits}
 use Rattle.ecma_hygiene_exists.proofs.Leaving.{leave-sixteen}
 use Rattle.ts_to_js.specs.Stages.{kept}
-use Rattle.ts_to_js.proofs.Empty.{empty}
 
 -- contexts enough for the scopes of a tree, and for two more
 pub enough-two : (left : ℕ) (tree : Node) → needed tree ≤ left → contexts tree + 2 ≤ left
@@ -35,7 +34,7 @@ not-long n short = omega arith
 kept-sorted : (config : Config) (left : ℕ) (tree : Node) → HasSort sort.Module tree → HasSort sort.Module (kept config left tree)
 kept-sorted config left tree sorted =
     let r : Node = resolved left (left - 1) (left - 2) tree in
-    (contexts_keep_sorts empty (elided config r) sort.Module).1 (elided_modules_are_sorted config r ((keeps-sorts left (left - 1) (left - 2) tree sort.Module).1 sorted))
+    (contexts_keep_sorts (λ sym ctxt. 0) (elided config r) sort.Module).1 (elided_modules_are_sorted config r ((keeps-sorts left (left - 1) (left - 2) tree sort.Module).1 sorted))
 
 -- it takes as many contexts
 module _ (law : ElidedSourcesTakeAsManyContexts) (config : Config) (left : ℕ) (tree bound : Node) (fits : Fits tree) (is : bound ≡ with_bound_names (enclosed (kept config left tree))) where

@@ -12,16 +12,14 @@ ghost use Rattle.ts_to_js.specs.Answer.{AnswersBy};
 ghost use Rattle.ts_to_js.specs.Conversion.{ComesOf, ComesOfReading, HasDrawnFor, IsConverted, Leaves};
 ghost use Rattle.ts_to_js.specs.Headline.{IsConversion, IsValid};
 ghost use Rattle.ts_to_js.specs.Refusals.{ReadingNeedsAtMost, refused, refused_early, refused_late};
-ghost use Rattle.ts_to_js.specs.Stages.{kept, ready_of};
+ghost use Rattle.ts_to_js.specs.Stages.{ready_of};
 
-use crate::contexts::{draw_to, drop_contexts};
+use crate::drawing::draw_to;
 use crate::error::TsError;
-use crate::losing::may_lose;
 use crate::options::Options;
 use ecma_bind::bind_names;
 use ecma_config::Config;
-use ecma_elide::elide;
-use ecma_elide_sources::elided_sources_take_as_many_contexts;
+use ecma_elide_sources::{elide_source, elided_sources_take_as_many_contexts};
 use ecma_enclose::enclose;
 use ecma_exports::check_exports;
 use ecma_forms::first_unlowered;
@@ -194,7 +192,7 @@ fn written(
     ensures kept { OnErr result (session.new ≡ session.old) }
 {
     let was_module = has_module_declaration(tree);
-    let left = make_ready(alloc, session.left(), tree, config)?;
+    let left = make_ready(alloc, session, tree, config)?;
     finish(alloc, tree, config, was_module)?;
     let text = print_module(alloc, tree)?;
     draw_to(session, left);
@@ -202,38 +200,29 @@ fn written(
 }
 
 /// Takes out of a tree what the options drop of its imports and exports, encloses what would be read as something else, binds names with types round them, and
-/// gives the tree its bindings: if no name is declared again, and none is exported that is not declared or would be captured. Says how many contexts are left then.
-fn make_ready(alloc: Global, left: u32, tree: &mut Module, config: &Config) -> Result<u32, TsError>
+/// gives the tree its bindings: if no name is declared again, and none is exported that is not declared or would be captured. Says how many contexts of the
+/// session would be left then.
+fn make_ready(
+    alloc: Global,
+    session: &Session,
+    tree: &mut Module,
+    config: &Config,
+) -> Result<u32, TsError>
     requires source { IsRead tree.old }
-    requires enough { needed tree.old ≤ left }
-    ensures tree { OnOk result (tree.new ≡ ready_of config.now left tree.old) }
-    ensures left { IfOk result (λ now. now + (contexts tree.old + 2) ≡ left) }
-    ensures accepted { OnOk result (refused_late config.now left tree.old ≡ None) }
-    ensures refusal { IfErr result (λ refusal. (refusal ≡ TsError.NoMemory) ⊎ (refused_late config.now left tree.old ≡ Some refusal)) }
+    requires enough { needed tree.old ≤ session.now.left }
+    ensures tree { OnOk result (tree.new ≡ ready_of config.now session.now.left tree.old) }
+    ensures left { IfOk result (λ now. now + (contexts tree.old + 2) ≡ session.now.left) }
+    ensures accepted { OnOk result (refused_late config.now session.now.left tree.old ≡ None) }
+    ensures refusal { IfErr result (λ refusal. (refusal ≡ TsError.NoMemory) ⊎ (refused_late config.now session.now.left tree.old ≡ Some refusal)) }
 {
     elided_sources_take_as_many_contexts();
-    drop_unused(alloc, left, tree, config)?;
+    elide_source(alloc, session, tree, config)?;
     check_scopes(alloc, tree)?;
     enclose(alloc, tree)?;
     bind_names(alloc, tree)?;
-    let given = resolve_names(alloc, left, tree)?;
+    let given = resolve_names(alloc, session.left(), tree)?;
     check_exports(alloc, given.free, tree)?;
     Ok(given.left)
-}
-
-/// Takes out of a tree what the options drop of its imports and exports. Where they drop nothing, or nothing stands there that may go, nothing is done.
-fn drop_unused(alloc: Global, left: u32, tree: &mut Module, config: &Config) -> Result<(), NoMemory>
-    requires source { IsRead tree.old }
-    requires enough { needed tree.old ≤ left }
-    ensures tree { OnOk result (tree.new ≡ kept config.now left tree.old) }
-{
-    if config.verbatim_module_syntax || !may_lose(tree) {
-        return Ok(());
-    }
-    resolve_names(alloc, left, tree)?;
-    elide(alloc, config, tree)?;
-    drop_contexts(tree);
-    Ok(())
 }
 
 /// What was given to a tree: the context of its free names, and how many contexts are left.

@@ -1,11 +1,10 @@
 //! Converts TypeScript modules to JavaScript modules.
 #![tactic(auto)]
 
-mod contexts;
 mod convert;
+mod drawing;
 mod error;
 mod host;
-mod losing;
 mod options;
 mod program;
 mod report;
