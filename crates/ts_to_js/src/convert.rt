@@ -226,6 +226,7 @@ fn make_ready(
 }
 
 /// What was given to a tree: the context of its free names, and how many contexts are left.
+#[derive(Clone, Copy)]
 struct Given {
     free: SyntaxContext,
     left: u32,

@@ -105,7 +105,7 @@ export { e } from "o";
         word: "",
         src: "export default class<T> {}",
         status: DONE,
-        out: "export default class {\n}\n",
+        out: "export default class {}\n",
         err: "",
     },
     Row {
@@ -119,7 +119,7 @@ export { e } from "o";
         word: "",
         src: "export abstract class A { abstract a(): void } export declare const b: T;",
         status: DONE,
-        out: "export class A {\n}\n",
+        out: "export class A {}\n",
         err: "",
     },
     // a name that is exported in braces gets another text, and keeps its name

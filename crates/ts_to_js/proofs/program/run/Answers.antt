@@ -20,7 +20,7 @@ pub returns-in-None-clause-run : goal.returns-in-None-clause-run
 returns-in-None-clause-run g c =
     let ran = c.run_source.ensures.run in
     is_run c.converted_modules_do_what_their_sources_do.ensures c.no_run_is_spent.ensures (config_of c.args.words.now) (bad_word c.args.words.now) (g.S.Source.left c.args.source.now) c.run_source.result _ _ _ _ _ _ ran.0 ran.1
-    ran.2.0 (λ _. ran.2.1)
+    ran.2.0 (λ _. rw (sym c.config_of.ensures) ran.2.1)
     (rw (sym c.in-None.ensures) ran.2.2)
     (λ fault. rose (c.run_source.ensures.read_fault.counted fault))
     (λ fault. rose (c.run_source.ensures.write_fault.counted fault))
