@@ -3,8 +3,7 @@ pub mod Fits
 pub mod Runs
 pub mod ReadySources
 pub mod Conflicts
-pub mod Interfaces
 pub mod Sourced
 pub mod Written
-pub mod Exportless
 pub mod Whole
+pub mod Converted

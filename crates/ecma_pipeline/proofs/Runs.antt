@@ -13,8 +13,8 @@ use Rattle.ecma_pipeline.specs.Laws.{BoundSourcesRunAlike}
 
 pub sources_run_alike : BoundSourcesRunAlike
 sources_run_alike source is unresolved top left turns options script =
-    let sorted : HasSort sort.Module (resolved unresolved top left source) = (keeps-sorts unresolved top left source sort.Module).1 is.fits.sorted in
-    ap (λ (z : Node). observe turns options z script) ((resolve_alike source is.fits.sorted).same unresolved top left) ∙ runs_alike (resolved unresolved top left source) sorted turns options script
+    let sorted : HasSort sort.Module (resolved unresolved top left source) = (keeps-sorts unresolved top left source sort.Module).1 is in
+    ap (λ (z : Node). observe turns options z script) ((resolve_alike source is).same unresolved top left) ∙ runs_alike (resolved unresolved top left source) sorted turns options script
 
 pub bound_given : (unresolved top left : ℕ) (source : Node) → HasSort sort.Module source → AreGiven unresolved top left source → AreGiven unresolved top left (with_bound_names source)
 bound_given unresolved top left source sorted given = record {

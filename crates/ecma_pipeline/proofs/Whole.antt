@@ -1,65 +1,69 @@
--- The laws of each step, one behind the other.
-use Rattle.std.proofs.Common.{◌∙◌, ℕ, ◌<◌, ◌+◌, ◌-◌, ◌^◌, false, arith, length, sym, ap, ◌≡◌, ◌≤◌, [], None, subst}
+-- The laws of each step, one behind the other: from a tree as modules are read to what is written for it.
+use Rattle.std.proofs.Common.{◌∙◌, ℕ, Bool, false, sym, ap, ◌≡◌, ◌≤◌, List, [], None, subst}
 use Rattle.ecma_kind.specs.declared.shapes.Sort.TheVariants as sort
 use Rattle.ecma_tree.specs.declared.node.Node.{Node}
 use Rattle.ecma_tree.specs.Sorted.{HasSort}
-use Rattle.ecma_fits.specs.Fitting.{Fits}
+use Rattle.ecma_tree.specs.Spans.{without_spans}
 use Rattle.ecma_bind.specs.Binding.{with_bound_names}
+use Rattle.ecma_bind_sources.specs.Laws.{BoundTreesAreRead}
 use Rattle.ecma_enclose.specs.Enclosing.{enclosed}
 use Rattle.ecma_enclose_runs.specs.Laws.{EnclosedTreesRunAlike}
 use Rattle.ecma_enclose_scopes.specs.Laws.{EnclosedTreesDeclareAlike, EnclosedTreesTakeAsManyContexts}
-use Rattle.ecma_enclose_sources.specs.Laws.{EnclosedTreesAreRead, EnclosedTreesAreTaken}
-use Rattle.ecma_forms.specs.Forms.{first_unlowered, first_untaken}
-use Rattle.ecma_forms.specs.Laws.{TakenTreesNeedNoLowering}
-use Rattle.ecma_pipeline_names.specs.Laws.{EnclosingKeepsNamesShort, NamesThatAreReadAreShort}
+use Rattle.ecma_enclose_sources.specs.Laws.{EnclosedTreesAreRead, EnclosedTreesNeedNoLowering}
+use Rattle.ecma_exports.specs.Exports.{first_captured}
+use Rattle.ecma_exports_hygiene.specs.Laws.{ExportsThatAreNotCapturedKeepTheirTexts}
+use Rattle.ecma_forms.specs.Forms.{first_unlowered}
+use Rattle.ecma_pipeline_names.specs.Laws.{EnclosingKeepsNamesShort}
 use Rattle.ecma_scope.specs.Conflicts.{redeclared}
-use Rattle.ecma_scope.specs.Resolved.{AreGiven}
-use Rattle.ecma_hygiene_fits.specs.Spelled.{NoneLong}
-use Rattle.ecma_print.specs.Explicit.{explicit}
 use Rattle.ecma_scope.specs.Laws.{without_contexts}
-use Rattle.ecma_tree.specs.Spans.{without_spans}
-use Rattle.ecma_sources.specs.Sources.{IsReading, IsSource}
-use Rattle.ecma_plain.specs.Read.{IsRead, IsReadPlain}
-use Rattle.ecma_text_sources.specs.Laws.{ReadTreesAreRead, TreesThatNeedNoLoweringAreSources}
-use Rattle.ecma_bind_sources.specs.Laws.{BoundTreesAreRead, BoundTreesAreTaken}
-use Rattle.ecma_pipeline_plain.specs.Laws.{FinalTreesArePlain, FinalTreesHaveNoLaterForms}
-use Rattle.ecma_modules.specs.Modules.{typescript}
-use Rattle.ecma_scope.specs.Resolved.{resolved}
-use Rattle.ecma_pipeline_plain.proofs.Untaken.{resolved_taken}
+use Rattle.ecma_scope.specs.Resolved.{AreGiven, resolved}
 use Rattle.ecma_scope.proofs.Unchanged.{keeps-sorts}
-use Rattle.ecma_interface.specs.Reading.{own_text}
-use Rattle.ecma_pipeline.specs.Ways.{final_text}
-use Rattle.ecma_pipeline.proofs.Interfaces.{source_has_none, written_has_none}
+use Rattle.ecma_hygiene.specs.Hygienic.{IsHygienic}
+use Rattle.ecma_hygiene.specs.Renamed.{renamed}
+use Rattle.ecma_hygiene.specs.Texts.{HygienicTexts, text_in}
+use Rattle.ecma_hygiene_fits.specs.Placed.{NoneMade}
+use Rattle.ecma_hygiene_fits.specs.Spelled.{NoneLong}
+use Rattle.ecma_hygiene_runs.specs.Exports.{KeepsExportedTexts}
+use Rattle.ecma_interface.specs.Reading.{interface_of, own_text}
+use Rattle.ecma_lower.specs.Marking.{marked}
+use Rattle.ecma_marks.specs.Laws.{MarkedBeforeOrAfter, MarkedTreesAreReady, MarkedTreesCaptureAlike, MarkedTreesHaveNoOtherNames, MarkedTreesHaveOwnContexts, MarkedTreesHaveTheirInterface, MarkedTreesRunAlike}
+use Rattle.ecma_marks.specs.Marks.{marked_before}
+use Rattle.ecma_print.specs.Explicit.{explicit}
+use Rattle.ecma_plain.specs.Read.{IsRead}
+use Rattle.ecma_sources.specs.Sources.{IsReading}
+use Rattle.ecma_strip.specs.Stripping.{stripped}
+use Rattle.ecma_pipeline_interface.specs.Laws.{BoundSourcesHaveTheirInterface, WrittenTreesHaveTheirInterface}
+use Rattle.ecma_pipeline_spans.specs.Laws.{BindingMakesNoNames, ContextsMakeNoNames, EnclosingMakesNoNames}
 use Rattle.ecma_ready.specs.Ready.{HasOwnContexts, IsReady}
-use Rattle.ecma_pipeline.specs.Laws.{BoundSourcesAreReady, BoundSourcesRunAlike, FinalTreesFit, ReadyTreesAreWritten, WrittenModulesDoWhatTheirSourcesDo}
-use Rattle.ecma_pipeline.proofs.Exportless.{source_is_exportless}
-use Rattle.ecma_pipeline.proofs.Sourced.{sources_stay}
+use Rattle.ecma_pipeline.specs.Laws.{BoundSourcesAreReady, BoundSourcesRunAlike, ReadyTreesAreWritten, WrittenModulesDoWhatTheirSourcesDo}
+use Rattle.ecma_pipeline.specs.Ways.{DoesWhatItsSourceDoes, IsWrittenFor, final_text}
+use Rattle.ecma_pipeline.specs.Written.{DoesWhatItsTreeDoes}
+use Rattle.ecma_pipeline.proofs.Sourced.{final_trees_stay}
 
 pub record Laws : Type 0 where
-  pub reads : ReadTreesAreRead
-  pub sources : TreesThatNeedNoLoweringAreSources
-  pub lowered : TakenTreesNeedNoLowering
-  pub short : NamesThatAreReadAreShort
   pub enclosed_read : EnclosedTreesAreRead
-  pub enclosed_taken : EnclosedTreesAreTaken
+  pub enclosed_lowered : EnclosedTreesNeedNoLowering
   pub enclosed_short : EnclosingKeepsNamesShort
+  pub enclosed_made : EnclosingMakesNoNames
   pub enclosed_contexts : EnclosedTreesTakeAsManyContexts
   pub enclosed_distinct : EnclosedTreesDeclareAlike
   pub enclosed_runs : EnclosedTreesRunAlike
   pub bound_read : BoundTreesAreRead
-  pub bound_taken : BoundTreesAreTaken
-  pub ready : BoundSourcesAreReady
-  pub fit : FinalTreesFit
-  pub plain : FinalTreesArePlain
-  pub later : FinalTreesHaveNoLaterForms
-  pub written : ReadyTreesAreWritten
+  pub bound_made : BindingMakesNoNames
   pub bound_runs : BoundSourcesRunAlike
-
-shorter : (n : ℕ) → n < 2 ^ 32 - 64 → n < 2 ^ 32
-shorter n short = omega arith
-
-short_names : (n : ℕ) → n < 2 ^ 32 - 64 → n + 64 < 4294967296
-short_names n short = omega arith
+  pub bound_interface : BoundSourcesHaveTheirInterface
+  pub contexts_made : ContextsMakeNoNames
+  pub ready : BoundSourcesAreReady
+  pub marked_before_or_after : MarkedBeforeOrAfter
+  pub marked_ready : MarkedTreesAreReady
+  pub marked_own : MarkedTreesHaveOwnContexts
+  pub marked_made : MarkedTreesHaveNoOtherNames
+  pub marked_captured : MarkedTreesCaptureAlike
+  pub marked_runs : MarkedTreesRunAlike
+  pub marked_interface : MarkedTreesHaveTheirInterface
+  pub keeps : ExportsThatAreNotCapturedKeepTheirTexts
+  pub written : ReadyTreesAreWritten
+  pub written_interface : WrittenTreesHaveTheirInterface
 
 -- contexts enough for a module are enough for it with its parentheses
 enclosed_given : EnclosedTreesTakeAsManyContexts → (unresolved top left : ℕ) (source : Node) → HasSort sort.Module source → AreGiven unresolved top left source → AreGiven unresolved top left (enclosed source)
@@ -70,39 +74,88 @@ enclosed_given law unresolved top left source sorted given = record {
   enough = subst (λ (n : ℕ). n ≤ left) (sym (law source sorted)) given.enough;
 }
 
+-- a tree with final texts is one of the same tree
+hygienic_of : (one other final : Node) → one ≡ other → (is : IsHygienic one final) → HygienicTexts other is.names × (final ≡ renamed (text_in is.names) other)
+hygienic_of one other final same is = (subst (λ n. HygienicTexts n is.names) same is.texts, subst (λ n. final ≡ renamed (text_in is.names) n) same is.is)
+
+module _ (laws : Laws) (no_empty_export was_module : Bool) (unresolved top left : ℕ) (source final : Node) (read : IsRead source) (short : NoneLong source) (made : NoneMade source)
+    (is : IsWrittenFor no_empty_export was_module unresolved top left source final) where
+  sorted : HasSort sort.Module source
+  sorted = read.fits.sorted
+
+  abbrev tree : Node
+  tree = enclosed source
+
+  tree_read : IsRead tree
+  tree_read = laws.enclosed_read source read
+
+  abbrev whole : Node
+  whole = resolved unresolved top left (with_bound_names tree)
+
+  readiness : IsReady false unresolved whole × HasOwnContexts whole
+  readiness =
+      laws.ready unresolved top left tree tree_read (laws.enclosed_short source sorted short) (laws.enclosed_lowered source sorted is.lowered) (laws.enclosed_distinct source sorted ∙ is.distinct)
+      (enclosed_given laws.enclosed_contexts unresolved top left source sorted is.given)
+
+  whole_sorted : HasSort sort.Module whole
+  whole_sorted = readiness.0.fits.sorted
+
+  whole_made : NoneMade whole
+  whole_made = laws.contexts_made unresolved top left (with_bound_names tree) (laws.bound_made tree (laws.enclosed_made source sorted made))
+
+  -- with `export {}`
+  abbrev all : Node
+  all = marked_before no_empty_export was_module whole
+
+  all_ready : IsReady false unresolved all
+  all_ready = laws.marked_ready no_empty_export was_module false unresolved whole readiness.0
+
+  all_own : HasOwnContexts all
+  all_own = laws.marked_own no_empty_export was_module whole whole_sorted readiness.1
+
+  before : marked no_empty_export was_module (stripped whole) ≡ stripped all
+  before = sym (laws.marked_before_or_after no_empty_export was_module whole whole_sorted)
+
+  texts : HygienicTexts (stripped all) is.hygienic.names × (final ≡ renamed (text_in is.hygienic.names) (stripped all))
+  texts = hygienic_of (marked no_empty_export was_module (stripped whole)) (stripped all) final before is.hygienic
+
+  abbrev hygienic : IsHygienic (stripped all) final
+  hygienic = record { names = is.hygienic.names; texts = texts.0; is = texts.1 }
+
+  keeps : KeepsExportedTexts (final_text is.hygienic) (stripped all)
+  keeps =
+      laws.keeps false unresolved all is.hygienic.names all_ready all_own (laws.marked_made no_empty_export was_module whole whole_sorted whole_made)
+      (laws.marked_captured no_empty_export was_module unresolved whole whole_sorted ∙ is.uncaptured) texts.0
+
+  result : DoesWhatItsTreeDoes false all final
+  result = laws.written false unresolved all final all_ready all_own hygienic keeps
+
+  reading : IsReading final result.written
+  reading =
+      result.again
+      ∙ ap (λ (n : Node). without_spans (explicit (without_contexts n)))
+      (final_trees_stay no_empty_export was_module unresolved top left (with_bound_names tree) (laws.bound_read tree tree_read) final is.hygienic)
+
+  interface : interface_of own_text result.written ≡ interface_of (final_text is.hygienic) (resolved unresolved top left source)
+  interface =
+      laws.written_interface false unresolved all final result.written all_ready hygienic keeps result.again
+      ∙ laws.marked_interface no_empty_export was_module (final_text is.hygienic) whole whole_sorted
+      ∙ laws.bound_interface (final_text is.hygienic) unresolved top left source sorted
+
+  written : DoesWhatItsSourceDoes unresolved top left source final (final_text is.hygienic)
+  written = record {
+    written = result.written;
+    plain = result.plain;
+    tree = reading;
+    distinct = result.distinct;
+    interface = interface;
+    runs = λ unresolved' top' left' given' turns options script.
+        result.runs unresolved' top' left' given' turns options script
+        ∙ laws.marked_runs no_empty_export was_module whole whole_sorted turns options script
+        ∙ laws.bound_runs tree tree_read.fits.sorted unresolved top left turns options script
+        ∙ laws.enclosed_runs source sorted unresolved top left turns options script;
+  }
+
 pub written_modules : Laws → WrittenModulesDoWhatTheirSourcesDo
-written_modules laws unresolved top left bound text source final utf8 short reads is =
-    let read : IsRead source = laws.reads text typescript bound source utf8 (shorter (length text) short) reads in
-    let sorted : HasSort sort.Module source = read.fits.sorted in
-    let tree : Node = enclosed source in
-    let enclosed_read : IsRead tree = laws.enclosed_read source read in
-    let taken : first_untaken tree ≡ None = laws.enclosed_taken source sorted is.taken in
-    let low : first_unlowered tree ≡ None = laws.lowered tree taken in
-    let distinct : redeclared tree ≡ [] = laws.enclosed_distinct source sorted ∙ is.distinct in
-    let given : AreGiven unresolved top left tree = enclosed_given laws.enclosed_contexts unresolved top left source sorted is.given in
-    let of : IsSource tree = laws.sources tree enclosed_read low distinct in
-    let names : NoneLong tree = laws.enclosed_short source sorted (laws.short text typescript bound source (short_names (length text) short) reads) in
-    let whole : Node = resolved unresolved top left (with_bound_names tree) in
-    let readiness = laws.ready unresolved top left tree enclosed_read names low distinct given in
-    let ready : IsReady false unresolved whole = readiness.0 in
-    let own : HasOwnContexts whole = readiness.1 in
-    let fits : Fits final = laws.fit false unresolved whole final ready is.hygienic in
-    let plain : IsReadPlain false final =
-    laws.plain unresolved top left (with_bound_names tree) final (laws.bound_read tree enclosed_read) (laws.lowered (with_bound_names tree) (laws.bound_taken tree taken)) is.hygienic fits in
-    let bare = source_is_exportless unresolved top left (with_bound_names tree) (laws.bound_read tree enclosed_read) (laws.bound_taken tree taken) in
-    let made = laws.written false unresolved whole final ready own bare is.hygienic in
-    let later = laws.later unresolved top left (with_bound_names tree) final (laws.bound_read tree enclosed_read) (laws.bound_taken tree taken) is.hygienic in
-    let reading : IsReading final made.written = made.again ∙ ap (λ (n : Node). without_spans (explicit (without_contexts n))) (sources_stay final plain.taken) in
-    let names_of = final_text is.hygienic in
-    record {
-      written = made.written;
-      plain = made.plain;
-      tree = reading;
-      distinct = made.distinct;
-      interface = written_has_none final made.written reading later own_text
-          ∙ sym (source_has_none (resolved unresolved top left source) ((keeps-sorts unresolved top left source sort.Module).1 sorted) (resolved_taken unresolved top left source is.taken) names_of);
-      runs = λ unresolved' top' left' given' turns options script.
-          made.runs unresolved' top' left' given' turns options script
-          ∙ laws.bound_runs tree of unresolved top left turns options script
-          ∙ laws.enclosed_runs source sorted unresolved top left turns options script;
-    }
+written_modules laws no_empty_export was_module unresolved top left source final read short made is =
+    written laws no_empty_export was_module unresolved top left source final read short made is

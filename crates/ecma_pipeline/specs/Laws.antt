@@ -1,39 +1,48 @@
 -- A module on its whole way: from its text to the text that is written for it, and what that does; and the parts of this law.
-use Rattle.std.specs.Prelude.{◌≡◌, ◌<◌, ◌^◌, ◌-◌, ℕ, Bool, true, false, List, Ok, length, None, []}
+use Rattle.std.specs.Prelude.{◌≡◌, ◌<◌, ◌^◌, ◌-◌, ℕ, Bool, false, List, Ok, length, None, []}
 use Rattle.std.specs.Str.{IsUtf8}
 use Rattle.ecma_kind.specs.declared.shapes.Sort.TheVariants as sort
 use Rattle.ecma_tree.specs.declared.node.Node.{Node}
 use Rattle.ecma_tree.specs.Sorted.{HasSort}
 use Rattle.ecma_modules.specs.Modules.{reads_as, typescript}
 use Rattle.ecma_fits.specs.Fitting.{Fits}
-use Rattle.ecma_forms.specs.Forms.{first_unlowered, first_untaken}
+use Rattle.ecma_forms.specs.Forms.{first_unlowered}
 use Rattle.ecma_scope.specs.Resolved.{resolved, AreGiven}
 use Rattle.ecma_strip.specs.Stripping.{stripped}
 use Rattle.ecma_hygiene.specs.Hygienic.{IsHygienic}
+use Rattle.ecma_hygiene.specs.Renamed.{text_of}
+use Rattle.ecma_hygiene.specs.Texts.{text_in}
 use Rattle.ecma_bind.specs.Binding.{with_bound_names}
+use Rattle.ecma_elide_sources.specs.Sources.{elided_source}
+use Rattle.ecma_hygiene_fits.specs.Placed.{NoneMade}
 use Rattle.ecma_hygiene_fits.specs.Spelled.{NoneLong}
-use Rattle.ecma_hygiene_runs.specs.Exports.{exports_nothing}
+use Rattle.ecma_hygiene_runs.specs.Exports.{KeepsExportedTexts}
 use Rattle.ecma_scope.specs.Conflicts.{redeclared}
-use Rattle.ecma_sources.specs.Sources.{IsReading, IsSource}
+use Rattle.ecma_sources.specs.Sources.{IsReading}
 use Rattle.ecma_config.specs.declared.config.Config.{Config}
 use Rattle.ecma_ready.specs.Ready.{HasOwnContexts, IsReady}
 use Rattle.ecma_runs.specs.declared.script.Script.{Script}
 use Rattle.ecma_runs.specs.Observation.{observe}
-use Rattle.ecma_pipeline.specs.Ways.{IsWrittenFor, DoesWhatItsSourceDoes, final_text}
+use Rattle.ecma_pipeline.specs.Ways.{IsConvertedTo, IsWrittenFor, DoesWhatItsSourceDoes, final_text}
 use Rattle.ecma_pipeline.specs.Written.{DoesWhatItsTreeDoes}
 use Rattle.ecma_plain.specs.Read.{IsRead}
-use Rattle.ecma_interface.specs.Names.{Id}
-use Rattle.ecma_interface.specs.Reading.{interface_of, nothing}
 
--- what is written for a module is a plain module, of the tree that was made of it, declares no name again where it may not, has the interface of its source, and does what
--- that does
+-- what is written for a module that was read is a plain module, of the tree that was made of it, declares no name again where it may not, has the interface of what the options
+-- leave of its source, and does what that does
+abbrev pub ConvertedModulesDoWhatTheirSourcesDo : Type 0
+ConvertedModulesDoWhatTheirSourcesDo =
+    (config : Config) (unresolved top left bound : ℕ) (text : List ℕ) (source final : Node) → IsUtf8 text → length text < 2 ^ 32 - 64 → reads_as text typescript bound ≡ Ok source
+    → (is : IsConvertedTo config unresolved top left source final)
+    → DoesWhatItsSourceDoes unresolved top left (elided_source config unresolved top left source) final (final_text is.hygienic)
+
+-- and so is what is written for any tree as modules are read, of which no identifier is long, and none was made
 abbrev pub WrittenModulesDoWhatTheirSourcesDo : Type 0
 WrittenModulesDoWhatTheirSourcesDo =
-    (unresolved top left bound : ℕ) (text : List ℕ) (source final : Node) → IsUtf8 text → length text < 2 ^ 32 - 64 → reads_as text typescript bound ≡ Ok source
-    → (is : IsWrittenFor unresolved top left source final) → DoesWhatItsSourceDoes unresolved top left source final (final_text is.hygienic)
+    (no_empty_export was_module : Bool) (unresolved top left : ℕ) (source final : Node) → IsRead source → NoneLong source → NoneMade source
+    → (is : IsWrittenFor no_empty_export was_module unresolved top left source final) → DoesWhatItsSourceDoes unresolved top left source final (final_text is.hygienic)
 
--- a module as it is read, of which no form has to be lowered first by another pass, no identifier is long, and no name is declared again where it may not be, is ready once
--- its names are bound and it is resolved, and its scopes have contexts of their own
+-- a module as it is read, in which nothing has to be lowered, no identifier is long, and no name is declared again where it may not be, is ready once its names are bound
+-- and it is resolved, and its scopes have contexts of their own
 abbrev pub BoundSourcesAreReady : Type 0
 BoundSourcesAreReady =
     (unresolved top left : ℕ) (source : Node) → IsRead source → NoneLong source → first_unlowered source ≡ None → redeclared source ≡ [] → AreGiven unresolved top left source
@@ -49,21 +58,15 @@ WrittenModulesAreNotRedeclared =
     (assignments : Bool) (free : ℕ) (tree final written : Node) → IsReady assignments free tree → HasOwnContexts tree → IsHygienic (stripped tree) final → IsReading final written
     → redeclared written ≡ []
 
--- so what is written for a tree that is ready, exports nothing, and whose scopes have contexts of their own, does what the tree does, whether or not its literals have source
--- texts
+-- so what is written for a tree that is ready, whose exported declarations keep their texts, and whose scopes have contexts of their own, does what the tree does, whether or
+-- not its literals have source texts
 abbrev pub ReadyTreesAreWritten : Type 0
 ReadyTreesAreWritten =
-    (assignments : Bool) (free : ℕ) (tree final : Node) → IsReady assignments free tree → HasOwnContexts tree → exports_nothing (stripped tree) ≡ true → IsHygienic (stripped tree) final
-    → DoesWhatItsTreeDoes assignments tree final
+    (assignments : Bool) (free : ℕ) (tree final : Node) → IsReady assignments free tree → HasOwnContexts tree → (is : IsHygienic (stripped tree) final)
+    → KeepsExportedTexts (text_of (text_in is.names)) (stripped tree) → DoesWhatItsTreeDoes assignments tree final
 
 -- a module with bound names, resolved, is observed to do what the resolved module does
 abbrev pub BoundSourcesRunAlike : Type 0
 BoundSourcesRunAlike =
-    (source : Node) → IsSource source → (unresolved top left : ℕ) (turns : ℕ) (options : Config) (script : Script)
+    (source : Node) → HasSort sort.Module source → (unresolved top left : ℕ) (turns : ℕ) (options : Config) (script : Script)
     → observe turns options (resolved unresolved top left (with_bound_names source)) script ≡ observe turns options (resolved unresolved top left source) script
-
--- a module of which each form is taken imports and exports nothing, whatever the texts of its variables are
-abbrev pub TakenModulesHaveNoInterface : Type 0
-TakenModulesHaveNoInterface =
-    (tree : Node) → HasSort sort.Module tree → first_untaken tree ≡ None
-    → (text : Id → List ℕ) → interface_of text tree ≡ nothing

@@ -1,11 +1,14 @@
 -- A module and what is written for it.
-use Rattle.std.specs.Prelude.{◌≡◌, ℕ, false, List, [], None}
+use Rattle.std.specs.Prelude.{◌≡◌, ℕ, Bool, List, [], None}
 use Rattle.ecma_tree.specs.declared.node.Node.{Node}
 use Rattle.ecma_plain.specs.Texts.{IsPlainModule}
 use Rattle.ecma_print.specs.Layout.{layout}
 use Rattle.ecma_bind.specs.Binding.{with_bound_names}
+use Rattle.ecma_elide_sources.specs.Sources.{elided_source}
 use Rattle.ecma_enclose.specs.Enclosing.{enclosed}
-use Rattle.ecma_forms.specs.Forms.{first_untaken}
+use Rattle.ecma_exports.specs.Exports.{first_captured}
+use Rattle.ecma_forms.specs.Forms.{first_unlowered}
+use Rattle.ecma_lower.specs.Marking.{has_module_declaration, marked}
 use Rattle.ecma_scope.specs.Conflicts.{redeclared}
 use Rattle.ecma_scope.specs.Resolved.{resolved, AreGiven}
 use Rattle.ecma_strip.specs.Stripping.{stripped}
@@ -19,13 +22,22 @@ use Rattle.ecma_config.specs.declared.config.Config.{Config}
 use Rattle.ecma_runs.specs.declared.script.Script.{Script}
 use Rattle.ecma_runs.specs.Observation.{observe}
 
--- a tree that was read, of which each form is taken and no name is declared again where it may not be; and the tree that is written for it: with its parentheses
--- and bound names, resolved, without its types, with its final texts
-pub record IsWrittenFor (unresolved top left : ℕ) (source final : Node) : Type 0 where
-  pub taken : first_untaken source ≡ None
+-- with what has to have parentheses in them, with names that have types round them bound, and with its bindings
+abbrev pub prepared : ℕ → ℕ → ℕ → Node → Node
+prepared unresolved top left tree = resolved unresolved top left (with_bound_names (enclosed tree))
+
+-- what is written of it: without its types, and with `export {}` where it was a module by an import or an export, and nothing else says so then
+abbrev pub plain_of : Bool → Bool → ℕ → ℕ → ℕ → Node → Node
+plain_of no_empty_export was_module unresolved top left tree = marked no_empty_export was_module (stripped (prepared unresolved top left tree))
+
+-- a tree as modules are read, in which nothing has to be lowered, no name is declared again where it may not be, and no exported name is captured; and the tree that is
+-- written for it, with its final texts
+pub record IsWrittenFor (no_empty_export was_module : Bool) (unresolved top left : ℕ) (source final : Node) : Type 0 where
+  pub lowered : first_unlowered source ≡ None
   pub distinct : redeclared source ≡ []
   pub given : AreGiven unresolved top left source
-  pub hygienic : IsHygienic (stripped (resolved unresolved top left (with_bound_names (enclosed source)))) final
+  pub uncaptured : first_captured unresolved (prepared unresolved top left source) ≡ None
+  pub hygienic : IsHygienic (plain_of no_empty_export was_module unresolved top left source) final
 
 -- the text of a variable in the tree that is written
 abbrev pub final_text : {tree written : Node} → IsHygienic tree written → Id → List ℕ
@@ -41,3 +53,11 @@ pub record DoesWhatItsSourceDoes (unresolved top left : ℕ) (source final : Nod
   pub interface : interface_of own_text written ≡ interface_of text (resolved unresolved top left source)
   pub runs : (unresolved' top' left' : ℕ) → AreGiven unresolved' top' left' written
       → (turns : ℕ) (options : Config) (script : Script) → observe turns options (resolved unresolved' top' left' written) script ≡ observe turns options (resolved unresolved top left source) script
+
+-- a tree that was read, in which nothing has to be lowered, and for which contexts enough are given; and the tree that is written for what the options leave of it
+pub record IsConvertedTo (config : Config) (unresolved top left : ℕ) (source final : Node) : Type 0 where
+  pub lowered : first_unlowered source ≡ None
+  pub given : AreGiven unresolved top left source
+  pub distinct : redeclared (elided_source config unresolved top left source) ≡ []
+  pub uncaptured : first_captured unresolved (prepared unresolved top left (elided_source config unresolved top left source)) ≡ None
+  pub hygienic : IsHygienic (plain_of config.no_empty_export (has_module_declaration source) unresolved top left (elided_source config unresolved top left source)) final

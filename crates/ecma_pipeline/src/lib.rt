@@ -4,44 +4,59 @@
 //!
 //! | step | pass | its laws |
 //! |---|---|---|
-//! | A text is read as a module: it fits, and where none of its forms has to be lowered it is a source of what is written. | `ecma_text` | `ecma_text_sorts`, `ecma_text_leaves`, `ecma_text_fits`, `ecma_text_plain`, `ecma_text_sources`, `ecma_text_contexts`, `ecma_text_runs`; `ecma_pipeline_names` |
+//! | A text is read as a module: it fits, and where nothing of it has to be lowered it is a source of what is written. | `ecma_text` | `ecma_text_sorts`, `ecma_text_leaves`, `ecma_text_fits`, `ecma_text_plain`, `ecma_text_sources`, `ecma_text_contexts`, `ecma_text_runs`, `ecma_text_spans`; `ecma_pipeline_names`, `ecma_pipeline_spans` |
+//! | What the options drop of its imports and exports goes. | `ecma_elide` | `ecma_elide_fits`, `ecma_elide_sources` |
 //! | What would be read as a directive, or as `async` of an arrow function, gets parentheses. | `ecma_enclose` | `ecma_enclose_fits`, `ecma_enclose_scopes`, `ecma_enclose_runs`, `ecma_enclose_sources` |
 //! | Names with types round them are bound. | `ecma_bind` | `ecma_bind_fits`, `ecma_bind_scopes`, `ecma_bind_runs`, `ecma_bind_sources` |
 //! | Each identifier gets the context of what it names. | `ecma_scope` | `ecma_scope_fits`, `ecma_scope_congruence` |
+//! | No exported name is captured. | `ecma_exports` | `ecma_exports_hygiene` |
 //! | Types are stripped. | `ecma_strip` | `ecma_strip_fits`, `ecma_strip_scopes`, `ecma_strip_conflicts`, `ecma_strip_runs`, `ecma_strip_idempotent` |
+//! | `export {}` comes where nothing else says that the text is a module. | `ecma_lower` | `ecma_marks` |
 //! | Bindings get final texts. | `ecma_hygiene` | `ecma_hygiene_exists`, `ecma_hygiene_fits`, `ecma_hygiene_scopes`, `ecma_hygiene_conflicts`, `ecma_hygiene_runs` |
 //! | The tree is laid out as text, and that is read again. | `ecma_print` | `ecma_print_congruence`, `ecma_print_parentheses`, `ecma_print_covers`, `ecma_print_fits`, `ecma_print_explicit`, `ecma_print_tokens`, `ecma_print_reread`, `ecma_print_heads`, `ecma_print_shapes`; `ecma_round_trip`, `ecma_round_trip_literals`, `ecma_source_texts` |
-//! | All of it: what is written is plain, and does what its source does. | | `ecma_pipeline_plain`, `ecma_pipeline_runs`, and here |
+//! | All of it: what is written is plain, imports and exports what its source does, and does what that does. | | `ecma_pipeline_plain`, `ecma_pipeline_interface`, `ecma_pipeline_runs`, and here |
 //!
 //! The way has two halves. A source is bound and resolved, and is ready then (`bound_sources_are_ready`); what is written for a tree that is ready does what the
-//! tree does (`ready_trees_are_written`). A pass that lowers stands between the two: it owes that what it makes of a tree is ready, exports nothing, and runs alike.
-//! What ready is stands in `ecma_ready`.
+//! tree does (`ready_trees_are_written`). A pass that lowers stands between the two: it owes that what it makes of a tree is ready, has its interface, and runs alike.
+//! `export {}` is such a pass, since it may come before types go (`ecma_marks`). What ready is stands in `ecma_ready`. Elision stands before all of this: what it leaves
+//! of a module is as modules are read (`converted_modules_do_what_their_sources_do`).
 //!
 //! Each function carries one law over the definitions, and does nothing but to call upon the laws that it is put together of. The laws are stated in
 //! `specs/Laws.antt`.
 #![tactic(auto)]
 
-ghost use Rattle.ecma_pipeline.specs.Laws.{BoundSourcesAreReady, BoundSourcesRunAlike, FinalTreesFit, ReadyTreesAreWritten, TakenModulesHaveNoInterface, WrittenModulesAreNotRedeclared, WrittenModulesDoWhatTheirSourcesDo};
+ghost use Rattle.ecma_pipeline.specs.Laws.{BoundSourcesAreReady, BoundSourcesRunAlike, ConvertedModulesDoWhatTheirSourcesDo, FinalTreesFit, ReadyTreesAreWritten, WrittenModulesAreNotRedeclared, WrittenModulesDoWhatTheirSourcesDo};
 
 use ecma_bind_fits::bound_names_are_plain;
 use ecma_bind_scopes::bound_names_do_not_matter_to_scopes;
-use ecma_bind_sources::{
-    bound_trees_are_read, bound_trees_are_taken, bound_trees_need_no_lowering,
+use ecma_bind_sources::{bound_trees_are_read, bound_trees_need_no_lowering};
+use ecma_elide_sources::{
+    elided_sources_are_read, elided_sources_need_no_lowering, elided_sources_take_as_many_contexts,
+    eliding_keeps_names_short, eliding_makes_no_names,
 };
 use ecma_enclose_runs::enclosed_trees_run_alike;
 use ecma_enclose_scopes::enclosed_trees_scope_alike;
-use ecma_enclose_sources::{enclosed_trees_are_read, enclosed_trees_are_taken};
-use ecma_forms::what_is_taken_needs_no_lowering;
+use ecma_enclose_sources::{enclosed_trees_are_read, enclosed_trees_need_no_lowering};
+use ecma_exports_hygiene::exports_that_are_not_captured_keep_their_texts;
 use ecma_hygiene_fits::final_texts_keep_what_fits;
 use ecma_hygiene_scopes::resolved_modules_keep_their_scopes_apart;
+use ecma_marks::{
+    marked_before_or_after, marked_trees_are_ready, marked_trees_capture_alike,
+    marked_trees_have_no_other_names, marked_trees_have_own_contexts,
+    marked_trees_have_their_interface, marked_trees_run_alike,
+};
+use ecma_pipeline_interface::{
+    bound_sources_have_their_interface, written_trees_have_their_interface,
+};
 use ecma_pipeline_names::{
     binding_keeps_names_short, contexts_keep_names_short, enclosing_keeps_names_short,
     names_that_are_read_are_short, stripping_keeps_names_short,
 };
-use ecma_pipeline_plain::{
-    final_trees_are_plain, final_trees_have_no_later_forms, ready_trees_are_plain,
-};
+use ecma_pipeline_plain::ready_trees_are_plain;
 use ecma_pipeline_runs::passes_keep_runs;
+use ecma_pipeline_spans::{
+    binding_makes_no_names, contexts_make_no_names, enclosing_makes_no_names,
+};
 use ecma_round_trip_literals::what_fits_and_is_plain_is_read_again;
 use ecma_scope_congruence::{
     parentheses_do_not_matter_to_conflicts, spans_do_not_matter_to_conflicts,
@@ -54,32 +69,54 @@ use ecma_source_texts::{
 };
 use ecma_strip_fits::stripping_keeps_fits;
 use ecma_text_sources::{trees_that_are_read_are_read, trees_that_need_no_lowering_are_sources};
+use ecma_text_spans::names_that_are_read_stand_in_the_source;
 
-/// What is written for a module of which each form is taken, and which declares no name again where it may not, is read again as a plain module, of the tree
-/// that was written, declares none again either, has the imports and exports of its source, and is observed to do what that does.
+/// What is written for a module, in which nothing has to be lowered, and which without what the options drop declares no name again where it may not, and has no
+/// exported name that is captured, is read again as a plain module, of the tree that was written, declares none again either, has the imports and exports that the options
+/// leave of its source, and is observed to do what that does.
+pub fn converted_modules_do_what_their_sources_do()
+    ensures { ConvertedModulesDoWhatTheirSourcesDo }
+{
+    trees_that_are_read_are_read();
+    names_that_are_read_are_short();
+    names_that_are_read_stand_in_the_source();
+    elided_sources_are_read();
+    elided_sources_need_no_lowering();
+    eliding_keeps_names_short();
+    eliding_makes_no_names();
+    elided_sources_take_as_many_contexts();
+    written_modules_do_what_their_sources_do();
+}
+
+/// What is written for a tree as modules are read: the same, of any whose identifiers are not too long and stand in a source.
 pub fn written_modules_do_what_their_sources_do()
     ensures { WrittenModulesDoWhatTheirSourcesDo }
 {
-    trees_that_are_read_are_read();
-    trees_that_need_no_lowering_are_sources();
-    what_is_taken_needs_no_lowering();
-    names_that_are_read_are_short();
     enclosed_trees_are_read();
-    enclosed_trees_are_taken();
+    enclosed_trees_need_no_lowering();
     enclosing_keeps_names_short();
+    enclosing_makes_no_names();
     enclosed_trees_scope_alike();
     enclosed_trees_run_alike();
     bound_trees_are_read();
-    bound_trees_are_taken();
-    bound_sources_are_ready();
-    final_trees_fit();
-    final_trees_are_plain();
-    final_trees_have_no_later_forms();
-    ready_trees_are_written();
+    binding_makes_no_names();
     bound_sources_run_alike();
+    bound_sources_have_their_interface();
+    contexts_make_no_names();
+    bound_sources_are_ready();
+    marked_before_or_after();
+    marked_trees_are_ready();
+    marked_trees_have_own_contexts();
+    marked_trees_have_no_other_names();
+    marked_trees_capture_alike();
+    marked_trees_run_alike();
+    marked_trees_have_their_interface();
+    exports_that_are_not_captured_keep_their_texts();
+    ready_trees_are_written();
+    written_trees_have_their_interface();
 }
 
-/// What is written for a tree that is ready, of which no export is left without its types, and whose scopes have contexts of their own, is read again as a plain
+/// What is written for a tree that is ready, whose exported declarations keep their texts, and whose scopes have contexts of their own, is read again as a plain
 /// module, of the tree that was written, declares no name again where it may not be, and is observed to do what the tree does: whether or not its literals
 /// have source texts.
 pub fn ready_trees_are_written()
@@ -98,9 +135,8 @@ pub fn ready_trees_are_written()
     source_texts_do_not_matter_to_runs();
 }
 
-/// Ready: a module as it is read, of which no form has to be lowered first by another pass, is ready to be stripped of its types, given its final texts and
-/// written, once its names are bound and it is resolved: if no identifier of it has a text of 2^32 - 64 bytes or more, no name is declared again where it may
-/// not be, and there were contexts enough.
+/// Ready: a module as it is read, in which nothing has to be lowered, is ready to be stripped of its types, given its final texts and written, once its names are bound
+/// and it is resolved: if no identifier of it has a text of 2^32 - 64 bytes or more, no name is declared again where it may not be, and there were contexts enough.
 pub fn bound_sources_are_ready()
     ensures { BoundSourcesAreReady }
 {
@@ -123,12 +159,6 @@ pub fn final_trees_fit()
     stripping_keeps_names_short();
     final_texts_keep_what_fits();
 }
-
-/// Interface: a module of which each form is taken imports and exports nothing.
-#[tactic(auto, using(crate::proofs::Interfaces::interfaces))]
-pub fn taken_modules_have_no_interface()
-    ensures { TakenModulesHaveNoInterface }
-{}
 
 /// Conflicts: what is read of a tree that is ready, and whose scopes have contexts of their own, once it is stripped of its types, given its final texts and
 /// written, declares no name again where it may not be.

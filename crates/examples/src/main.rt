@@ -3,13 +3,14 @@
 //! The gate compares what is printed with `stdout`, so the examples are true as long as it passes.
 #![tactic(auto)]
 
+use ecma_config::Config;
 use ecma_tree::Session;
 use std::fs;
 use std::io::{self, Write};
 use std::rt::Files;
 use ts_to_js::{Options, ts_to_js};
 
-const NAMES: [&str; 3] = ["types.ts", "classes.ts", "names.ts"];
+const NAMES: [&str; 4] = ["types.ts", "classes.ts", "names.ts", "modules.ts"];
 
 /// Prints the name of a module, and the text that it is converted to, or why it is refused.
 fn show<R: Files + Print + AllocGlobal>(rt: &R, name: &str) -> io::Result<()> {
@@ -17,6 +18,7 @@ fn show<R: Files + Print + AllocGlobal>(rt: &R, name: &str) -> io::Result<()> {
     println!(rt; "// {name}")?;
     let mut session = Session::new(u32::MAX);
     let options = Options {
+        config: Config::default(),
         program_ends: false,
     };
     match ts_to_js(rt.alloc(), &mut session, &source, &options) {

@@ -3,34 +3,54 @@ use Rattle.std.proofs.Common.{◌≡◌, ◌≤◌, ◌+◌, ◌-◌, ℕ, List,
 use Rattle.std.proofs.lemmas.Bool.Decides.{nat_tests}
 use Rattle.std.specs.Prelude.{Option}
 use Rattle.ecma_tree.specs.declared.node.Node.{Node}
-use Rattle.ecma_forms.specs.Forms.{first_untaken}
+use Rattle.ecma_config.specs.declared.config.Config.{Config}
+use Rattle.ecma_exports.specs.Exports.{first_captured, first_unbound}
+use Rattle.ecma_forms.specs.Forms.{first_unlowered}
 use Rattle.ecma_scope.specs.Conflicts.{redeclared}
 use Rattle.ecma_scope.specs.Clashes.{first_redeclared}
 use Rattle.ecma_scope.specs.Needs.{needed}
 use Rattle.ecma_scope.specs.Resolved.{contexts, AreGiven}
 use Rattle.ecma_scope.proofs.Telling.{told_where_redeclared}
 use Rattle.ecma_hygiene_exists.specs.Laws.{NeededLeaveSixteen}
-use Rattle.ts_to_js.specs.Refusals.{refused, refused_by}
+use Rattle.ts_to_js.specs.Refusals.{refused, refused_by, refused_early, refused_form, refused_late, refused_name}
+use Rattle.ts_to_js.specs.Stages.{kept, ready_of}
+use Rattle.ts_to_js.specs.declared.error.TsError.{TsError}
 
 -- what a tree is that nothing refuses
-pub record IsAccepted (left : ℕ) (tree : Node) : Type 0 where
-  pub taken : first_untaken tree ≡ None
+pub record IsAccepted (config : Config) (left : ℕ) (tree : Node) : Type 0 where
+  pub lowered : first_unlowered tree ≡ None
   pub enough : needed tree ≤ left
-  pub distinct : redeclared tree ≡ []
+  pub distinct : redeclared (kept config left tree) ≡ []
+  pub uncaptured : first_captured left (ready_of config left tree) ≡ None
 
-accepted_by : (untaken : Option ℕ) (short : Bool) (told : Option (List ℕ)) → refused_by untaken short told ≡ None → (untaken ≡ None) × (short ≡ false) × (told ≡ None)
-accepted_by None false None h = (refl, refl, refl)
-accepted_by None false (Some name) h = cc
-accepted_by None true told h = cc
-accepted_by (Some at) short told h = cc
+accepted_by : (early late : Option TsError) → refused_by early late ≡ None → (early ≡ None) × (late ≡ None)
+accepted_by None late h = (refl, h)
+accepted_by (Some refusal) late h = cc
+
+accepted_form : (unlowered : Option ℕ) (short : Bool) → refused_form unlowered short ≡ None → (unlowered ≡ None) × (short ≡ false)
+accepted_form None false h = (refl, refl)
+accepted_form None true h = cc
+accepted_form (Some at) short h = cc
+
+accepted_name : (told unbound captured : Option (List ℕ)) → refused_name told unbound captured ≡ None → (told ≡ None) × (captured ≡ None)
+accepted_name None None None h = (refl, refl)
+accepted_name None None (Some name) h = cc
+accepted_name None (Some name) captured h = cc
+accepted_name (Some name) unbound captured h = cc
 
 not_short : (needed left : ℕ) → nat_lt left needed ≡ false → needed ≤ left
 not_short needed left h = grind (arith, nat_tests)
 
-pub accepted : (left : ℕ) (tree : Node) → refused left tree ≡ None → IsAccepted left tree
-accepted left tree h =
-    let parts = accepted_by (first_untaken tree) (nat_lt left (needed tree)) (first_redeclared tree) h in
-    record { taken = parts.0; enough = not_short (needed tree) left parts.1; distinct = (told_where_redeclared tree).0 parts.2 }
+-- nothing refuses it before its names are looked at
+pub early_enough : (left : ℕ) (tree : Node) → refused_early left tree ≡ None → needed tree ≤ left
+early_enough left tree h = not_short (needed tree) left (accepted_form (first_unlowered tree) (nat_lt left (needed tree)) h).1
+
+pub accepted : (config : Config) (left : ℕ) (tree : Node) → refused config left tree ≡ None → IsAccepted config left tree
+accepted config left tree h =
+    let parts = accepted_by (refused_early left tree) (refused_late config left tree) h in
+    let form = accepted_form (first_unlowered tree) (nat_lt left (needed tree)) parts.0 in
+    let names = accepted_name (first_redeclared (kept config left tree)) (first_unbound left (ready_of config left tree)) (first_captured left (ready_of config left tree)) parts.1 in
+    record { lowered = form.0; enough = not_short (needed tree) left form.1; distinct = (told_where_redeclared (kept config left tree)).0 names.0; uncaptured = names.1 }
 
 -- so contexts enough are given for its scopes
 pub given : NeededLeaveSixteen → (left : ℕ) (tree : Node) → needed tree ≤ left → AreGiven left (left - 1) (left - 2) tree

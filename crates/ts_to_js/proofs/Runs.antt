@@ -4,6 +4,7 @@ use Rattle.std.specs.Prelude.{Option, Result, OnOk, OnErr, IfSome}
 use Rattle.std.specs.declared.alloc.Global.{Global}
 use Rattle.std.proofs.lemmas.List.{append-nil, take_all}
 use Rattle.std.specs.Io.KnownBytes.{append_known}
+use Rattle.ecma_config.specs.declared.config.Config.{Config}
 use Rattle.devices.specs.declared.sink.SinkError.{SinkError}
 use Rattle.devices.specs.declared.sink.SinkError.TheVariants.{Failed, NoMemory}
 use Rattle.devices.specs.Counts.{CountedAtMost, CountedExactlyIf}
@@ -133,6 +134,8 @@ refuses-reported (error.TooDeep at) err err' writing other whole part faults cal
 refuses-reported (error.Syntax at) err err' writing other whole part faults calls = λ out. ran-reported REFUSED (fault_line (error.Syntax at)) out err err' writing (inl refl) whole part faults calls
 refuses-reported error.Spent err err' writing other whole part faults calls = λ out. ran-reported REFUSED (fault_line error.Spent) out err err' writing (inl refl) whole part faults calls
 refuses-reported (error.Redeclared name) err err' writing other whole part faults calls = λ out. ran-reported REFUSED (fault_line (error.Redeclared name)) out err err' writing (inl refl) whole part faults calls
+refuses-reported (error.ExportUnbound name) err err' writing other whole part faults calls = λ out. ran-reported REFUSED (fault_line (error.ExportUnbound name)) out err err' writing (inl refl) whole part faults calls
+refuses-reported (error.Captured name) err err' writing other whole part faults calls = λ out. ran-reported REFUSED (fault_line (error.Captured name)) out err err' writing (inl refl) whole part faults calls
 refuses-reported error.NoMemory err err' writing other whole part faults calls = absurd (other refl)
 
 -- a run that was refused is the one that is expected
@@ -144,6 +147,8 @@ ran-refused (error.TooDeep at) answer status out err err' is told = subst (λ a.
 ran-refused (error.Syntax at) answer status out err err' is told = subst (λ a. Ran (expected_of a) status out out err err') (sym is) (told out)
 ran-refused error.Spent answer status out err err' is told = subst (λ a. Ran (expected_of a) status out out err err') (sym is) (told out)
 ran-refused (error.Redeclared name) answer status out err err' is told = subst (λ a. Ran (expected_of a) status out out err err') (sym is) (told out)
+ran-refused (error.ExportUnbound name) answer status out err err' is told = subst (λ a. Ran (expected_of a) status out out err err') (sym is) (told out)
+ran-refused (error.Captured name) answer status out err err' is told = subst (λ a. Ran (expected_of a) status out out err err') (sym is) (told out)
 ran-refused error.NoMemory answer status out err err' is told =
     subst (λ s. Ran (expected_of answer) s out out err err') (sym told.0) (subst (λ e. Ran (expected_of answer) NO_MEMORY out out err e) (sym told.1) (ran-no_memory (expected_of answer) out err))
 
@@ -174,17 +179,19 @@ told-no_write_fault (Err Failed) status (inr told) = λ fault. omega (arith, tol
 told-no_write_fault (Err NoMemory) status told = λ fault. omega (arith, fault)
 
 -- what an answer comes to is a run of these bytes
-pub run_of : (src : List ℕ) (result : Result (Vec ℕ Global) TsError) (status : ℕ) (out out' err err' : Seen) → AnswersBy result (IsConverted contexts_of_a_run src)
+pub run_of : (config : Config) (src : List ℕ) (result : Result (Vec ℕ Global) TsError) (status : ℕ) (out out' err err' : Seen) → AnswersBy result (IsConverted config contexts_of_a_run src)
     → (result ≡ Err error.NoMemory → IsUnwritten status out out' err err')
-    → ((conversion : Result (List ℕ) TsError) → Answers result conversion → Ran (expected_of conversion) status out out' err err') → IsRunOf src status out out' err err'
-run_of src (Ok text) status out out' err err' is unwritten ran = (Ok text.items, inl is, ran (Ok text.items) refl)
-run_of src (Err error.TooLong) status out out' err err' is unwritten ran = (Err error.TooLong, inl is, ran (Err error.TooLong) refl)
-run_of src (Err error.NotUtf8) status out out' err err' is unwritten ran = (Err error.NotUtf8, inl is, ran (Err error.NotUtf8) refl)
-run_of src (Err (error.TooDeep at)) status out out' err err' is unwritten ran = (Err (error.TooDeep at), inl is, ran (Err (error.TooDeep at)) refl)
-run_of src (Err (error.Syntax at)) status out out' err err' is unwritten ran = (Err (error.Syntax at), inl is, ran (Err (error.Syntax at)) refl)
-run_of src (Err error.Spent) status out out' err err' is unwritten ran = (Err error.Spent, inl is, ran (Err error.Spent) refl)
-run_of src (Err (error.Redeclared name)) status out out' err err' is unwritten ran = (Err (error.Redeclared name), inl is, ran (Err (error.Redeclared name)) refl)
-run_of src (Err error.NoMemory) status out out' err err' is unwritten ran = (Err error.NoMemory, inr (inr (unwritten refl)), ran (Err error.NoMemory) tt)
+    → ((conversion : Result (List ℕ) TsError) → Answers result conversion → Ran (expected_of conversion) status out out' err err') → IsRunOf config src status out out' err err'
+run_of config src (Ok text) status out out' err err' is unwritten ran = (Ok text.items, inl is, ran (Ok text.items) refl)
+run_of config src (Err error.TooLong) status out out' err err' is unwritten ran = (Err error.TooLong, inl is, ran (Err error.TooLong) refl)
+run_of config src (Err error.NotUtf8) status out out' err err' is unwritten ran = (Err error.NotUtf8, inl is, ran (Err error.NotUtf8) refl)
+run_of config src (Err (error.TooDeep at)) status out out' err err' is unwritten ran = (Err (error.TooDeep at), inl is, ran (Err (error.TooDeep at)) refl)
+run_of config src (Err (error.Syntax at)) status out out' err err' is unwritten ran = (Err (error.Syntax at), inl is, ran (Err (error.Syntax at)) refl)
+run_of config src (Err error.Spent) status out out' err err' is unwritten ran = (Err error.Spent, inl is, ran (Err error.Spent) refl)
+run_of config src (Err (error.Redeclared name)) status out out' err err' is unwritten ran = (Err (error.Redeclared name), inl is, ran (Err (error.Redeclared name)) refl)
+run_of config src (Err (error.ExportUnbound name)) status out out' err err' is unwritten ran = (Err (error.ExportUnbound name), inl is, ran (Err (error.ExportUnbound name)) refl)
+run_of config src (Err (error.Captured name)) status out out' err err' is unwritten ran = (Err (error.Captured name), inl is, ran (Err (error.Captured name)) refl)
+run_of config src (Err error.NoMemory) status out out' err err' is unwritten ran = (Err error.NoMemory, inr (inr (unwritten refl)), ran (Err error.NoMemory) tt)
 
 -- a refusal for want of memory touches no sink
 pub refused-unwritten : (refusal : TsError) (status : ℕ) (out err err' : Seen) → refusal ≡ error.NoMemory → Refuses refusal status err err' → IsUnwritten status out out err err'
@@ -195,6 +202,8 @@ refused-unwritten (error.TooDeep at) status out err err' is told = cc
 refused-unwritten (error.Syntax at) status out err err' is told = cc
 refused-unwritten error.Spent status out err err' is told = cc
 refused-unwritten (error.Redeclared name) status out err err' is told = cc
+refused-unwritten (error.ExportUnbound name) status out err err' is told = cc
+refused-unwritten (error.Captured name) status out err err' is told = cc
 
 -- a word is one
 pub a_word : {word : List ℕ} → Some word ≡ None → ⊥

@@ -1,75 +1,53 @@
--- Contexts enough for a tree with its parentheses and its names bound, and what is left of a session.
-use Rattle.std.proofs.Common.{◌≡◌, ◌≤◌, ◌+◌, ◌∙◌, ℕ, List, None, Ok, Err, inl, inr, refl, ap, subst, sym, arith}
-use Rattle.std.specs.Prelude.{OnOk, Result, Vec}
-use Rattle.std.specs.declared.alloc.Global.{Global}
-use Rattle.ecma_kind.specs.Sessions.{SessionState, drawn}
+-- Contexts enough for a tree without what the options drop, with its parentheses and its names bound.
+use Rattle.std.proofs.Common.{◌≡◌, ◌≤◌, ◌<◌, ◌+◌, ◌^◌, ◌-◌, ◌∙◌, ℕ, ap, sym, arith}
 use Rattle.ecma_kind.specs.declared.shapes.Sort.TheVariants as sort
 use Rattle.ecma_tree.specs.declared.node.Node.{Node}
 use Rattle.ecma_tree.specs.Sorted.{HasSort}
-use Rattle.ecma_modules.specs.Modules.{deepest, reads_as, typescript}
-use Rattle.ecma_scope.specs.Drawing.{HasGivenAtMost}
+use Rattle.ecma_tree.proofs.ShapeLaws.{contexts_keep_sorts}
+use Rattle.ecma_config.specs.declared.config.Config.{Config}
 use Rattle.ecma_scope.specs.Needs.{needed}
-use Rattle.ecma_scope.specs.Resolved.{contexts}
+use Rattle.ecma_scope.specs.Resolved.{contexts, resolved}
+use Rattle.ecma_scope.proofs.Unchanged.{keeps-sorts}
 use Rattle.ecma_bind.specs.Binding.{with_bound_names}
 use Rattle.ecma_bind_scopes.proofs.Placed.{resolve_alike}
+use Rattle.ecma_elide.specs.Elision.{elided}
+use Rattle.ecma_elide.proofs.Sorting.{elided_modules_are_sorted}
+use Rattle.ecma_elide_sources.specs.Laws.{ElidedSourcesTakeAsManyContexts}
 use Rattle.ecma_enclose.specs.Enclosing.{enclosed}
 use Rattle.ecma_enclose_fits.proofs.Whole.{trees_are_sorted}
 use Rattle.ecma_enclose_scopes.proofs.Counted.{take_as_many}
+use Rattle.ecma_fits.specs.Fitting.{Fits}
 use Rattle.ecma_hygiene_exists.proofs.Leaving.{leave-sixteen}
-use Rattle.ts_to_js.specs.declared.error.TsError.{TsError}
-use Rattle.ts_to_js.specs.declared.error.TsError.TheVariants as error
-use Rattle.ts_to_js.specs.Answer.{AnswersBy}
-use Rattle.ts_to_js.specs.Conversion.{ComesOf, HasGivenFor, Leaves}
+use Rattle.ts_to_js.specs.Stages.{kept}
 
--- the tree with its parentheses and its names bound takes as many
-same_contexts : (tree bound : Node) → HasSort sort.Module tree → bound ≡ with_bound_names (enclosed tree) → contexts bound ≡ contexts tree
-same_contexts tree bound sorted is = ap contexts is ∙ (resolve_alike (enclosed tree) (trees_are_sorted tree sorted)).count ∙ take_as_many tree sorted
-
-pub enough-bound : (left : ℕ) (tree bound : Node) → HasSort sort.Module tree → needed tree ≤ left → bound ≡ with_bound_names (enclosed tree) → contexts bound + 2 ≤ left
-enough-bound left tree bound sorted enough is =
-    let same : contexts bound ≡ contexts tree = same_contexts tree bound sorted is in
+-- contexts enough for the scopes of a tree, and for two more
+pub enough-two : (left : ℕ) (tree : Node) → needed tree ≤ left → contexts tree + 2 ≤ left
+enough-two left tree enough =
     let sixteen : contexts tree + 16 ≤ needed tree = leave-sixteen tree in
     omega arith
 
-pub given-bound : (before now : ℕ) (tree bound : Node) → HasSort sort.Module tree → bound ≡ with_bound_names (enclosed tree) → HasGivenFor before now bound → HasGivenFor before now tree
-given-bound before now tree bound sorted is given =
-    let same : contexts bound ≡ contexts tree = same_contexts tree bound sorted is in
-    ap (λ n. now + (n + 2)) (sym same) ∙ given
+pub not-long : (n : ℕ) → n ≤ 4194304 → n < 2 ^ 32
+not-long n short = omega arith
 
--- what holds anyway
-pub if_ok : {T E P : Type 0} (r : Result T E) → P → OnOk r P
-if_ok (Ok x) p = p
-if_ok (Err e) p = tt
+-- ---- without what the options drop, with its parentheses and its names bound
 
--- two marks are drawn, and then some for the scopes
-pub given-two : (count : ℕ) (before after : SessionState) → count + 2 ≤ before.left → HasGivenAtMost count (drawn (drawn before)) after → HasGivenAtMost (count + 2) before after
-given-two count before after enough given =
-    let fewer = given.fewer in
-    let most = given.most in
-    record { fewer = omega arith; most = omega arith; total = given.total; slots = given.slots }
+kept-sorted : (config : Config) (left : ℕ) (tree : Node) → HasSort sort.Module tree → HasSort sort.Module (kept config left tree)
+kept-sorted config left tree sorted =
+    let r : Node = resolved left (left - 1) (left - 2) tree in
+    (contexts_keep_sorts (λ sym ctxt. 0) (elided config r) sort.Module).1 (elided_modules_are_sorted config r ((keeps-sorts left (left - 1) (left - 2) tree sort.Module).1 sorted))
 
-pub most-bound : (tree bound : Node) (before after : SessionState) → HasSort sort.Module tree → bound ≡ with_bound_names (enclosed tree)
-    → HasGivenAtMost (contexts bound + 2) before after → HasGivenAtMost (contexts tree + 2) before after
-most-bound tree bound before after sorted is given = subst (λ count. HasGivenAtMost (count + 2) before after) (same_contexts tree bound sorted is) given
+-- it takes as many contexts
+module _ (law : ElidedSourcesTakeAsManyContexts) (config : Config) (left : ℕ) (tree bound : Node) (fits : Fits tree) (is : bound ≡ with_bound_names (enclosed (kept config left tree))) where
+  pub same-contexts : contexts bound ≡ contexts tree
+  same-contexts =
+      let rest : HasSort sort.Module (kept config left tree) = kept-sorted config left tree fits.sorted in
+      ap contexts is ∙ (resolve_alike (enclosed (kept config left tree)) (trees_are_sorted (kept config left tree) rest)).count ∙ take_as_many (kept config left tree) rest ∙ law config left (left - 1) (left - 2) tree fits
 
--- what is refused before anything is drawn leaves the session as it was
-pub refused-leaves : (refusal : TsError) (src : List ℕ) (session : SessionState) → Leaves (Err refusal) src session session
-refused-leaves error.TooLong src session = refl
-refused-leaves error.NotUtf8 src session = refl
-refused-leaves (error.TooDeep at) src session = refl
-refused-leaves (error.Syntax at) src session = refl
-refused-leaves error.Spent src session = refl
-refused-leaves (error.Redeclared name) src session = refl
-refused-leaves error.NoMemory src session = inl refl
+  pub enough-bound : needed tree ≤ left → contexts bound + 2 ≤ left
+  enough-bound enough =
+      let same : contexts bound ≡ contexts tree = same-contexts in
+      let two : contexts tree + 2 ≤ left = enough-two left tree enough in
+      omega arith
 
--- what is not refused fails by memory alone
-pub accepted-leaves : (result : Result (Vec ℕ Global) TsError) (left : ℕ) (src : List ℕ) (tree : Node) (before after : SessionState) → reads_as src typescript deepest ≡ Ok tree
-    → AnswersBy result (ComesOf left None tree) → OnOk result (HasGivenFor before.left after.left tree) → HasGivenAtMost (contexts tree + 2) before after → Leaves result src before after
-accepted-leaves (Ok text) left src tree before after read comes given most = ((tree, read, given), (tree, read, most))
-accepted-leaves (Err error.TooLong) left src tree before after read (final, is_final, is) given most = cc
-accepted-leaves (Err error.NotUtf8) left src tree before after read (final, is_final, is) given most = cc
-accepted-leaves (Err (error.TooDeep at)) left src tree before after read (final, is_final, is) given most = cc
-accepted-leaves (Err (error.Syntax at)) left src tree before after read (final, is_final, is) given most = cc
-accepted-leaves (Err error.Spent) left src tree before after read (final, is_final, is) given most = cc
-accepted-leaves (Err (error.Redeclared name)) left src tree before after read (final, is_final, is) given most = cc
-accepted-leaves (Err error.NoMemory) left src tree before after read comes given most = inr (tree, read, most)
+  pub left-bound : (now : ℕ) → now + (contexts bound + 2) ≡ left → now + (contexts tree + 2) ≡ left
+  left-bound now given = ap (λ n. now + (n + 2)) (sym same-contexts) ∙ given

@@ -15,6 +15,8 @@ fault_head (error.TooDeep at) = codes "error: TooDeep at "
 fault_head (error.Syntax at) = codes "error: Syntax at "
 fault_head error.Spent = codes "error: Spent"
 fault_head (error.Redeclared name) = codes "error: Redeclared "
+fault_head (error.ExportUnbound name) = codes "error: ExportUnbound "
+fault_head (error.Captured name) = codes "error: Captured "
 fault_head error.NoMemory = codes "error: NoMemory"
 
 -- its place or name, if it has one
@@ -22,11 +24,13 @@ abbrev pub fault_tail : TsError → List ℕ
 fault_tail (error.TooDeep at) = decimal at
 fault_tail (error.Syntax at) = decimal at
 fault_tail (error.Redeclared name) = name
+fault_tail (error.ExportUnbound name) = name
+fault_tail (error.Captured name) = name
 fault_tail refusal = []
 
 abbrev pub fault_line : TsError → List ℕ
 fault_line refusal = line (fault_head refusal) (fault_tail refusal)
 
--- the first word that is not known
+-- the first word that is unknown or repeated
 abbrev pub bad_word_line : List ℕ → List ℕ
 bad_word_line word = line (codes "error: bad word ") word

@@ -1,9 +1,7 @@
 -- What a run of the program does: its status, and what standard output and standard error take.
-use Rattle.std.specs.Prelude.{◌≡◌, ◌⊎◌, ℕ, ◌≢◌, List, [], ◌∷◌, length, take, Option, Some, None, Result, Ok, Err, IfSome, ◌+◌}
+use Rattle.std.specs.Prelude.{◌≡◌, ◌⊎◌, ℕ, ◌≢◌, List, [], length, take, Option, Some, None, Result, Ok, Err, IfSome, ◌+◌}
 use Rattle.std.specs.Io.KnownBytes.{append_known}
-use Rattle.std.specs.declared.rc.RcStr.{RcStr}
-use Rattle.std.specs.declared.alloc.Global.{Global}
-use Rattle.std.specs.Rc.{rc_str_bytes}
+use Rattle.ecma_config.specs.declared.config.Config.{Config}
 use Rattle.devices.specs.declared.sink.SinkError.{SinkError}
 use Rattle.devices.specs.declared.sink.SinkError.TheVariants.{Failed, NoMemory}
 use Rattle.devices.specs.Counts.{Rose, CountedAtMost}
@@ -24,11 +22,6 @@ abbrev pub expected_of : Result (List ℕ) TsError → Expected
 expected_of (Ok text) = record { status = DONE; text = text; line = [] }
 expected_of (Err refusal) = record { status = REFUSED; text = []; line = fault_line refusal }
 
--- the first word that is not known: no word is known yet
-abbrev pub bad_word : List (RcStr Global) → Option (List ℕ)
-bad_word [] = None
-bad_word (word ∷ words) = Some (rc_str_bytes word)
-
 -- of a bad word, if there is one, and what the bytes that are read are converted to
 abbrev pub expected : Option (List ℕ) → Result (List ℕ) TsError → Expected
 expected None answer = expected_of answer
@@ -40,7 +33,7 @@ contexts_of_a_run = 4294967295
 
 -- these are enough: no bytes are refused for want of them
 abbrev pub NoRunIsSpent : Type 0
-NoRunIsSpent = (src : List ℕ) (answer : Result (List ℕ) TsError) → IsConverted contexts_of_a_run src answer → answer ≢ Err error.Spent
+NoRunIsSpent = (config : Config) (src : List ℕ) (answer : Result (List ℕ) TsError) → IsConverted config contexts_of_a_run src answer → answer ≢ Err error.Spent
 
 -- the bytes that a run reads of those that a source has left: one more than a module may have, if there are so many
 abbrev pub first_read : List ℕ → List ℕ
@@ -102,29 +95,30 @@ abbrev pub IsUnwritten : ℕ → Seen → Seen → Seen → Seen → Type 0
 IsUnwritten status out out' err err' = (status ≡ NO_MEMORY) × (out' ≡ out) × (err' ≡ err)
 
 -- what is expected of a run is what its bytes are converted to, unless nothing came of them: reading failed, or memory ran out before anything was written
-abbrev pub IsExpectedOf : List ℕ → Result (List ℕ) TsError → ℕ → Seen → Seen → Seen → Seen → Type 0
-IsExpectedOf src answer status out out' err err' =
-    IsConverted contexts_of_a_run src answer ⊎ (status ≡ READ_FAULT) ⊎ IsUnwritten status out out' err err'
+abbrev pub IsExpectedOf : Config → List ℕ → Result (List ℕ) TsError → ℕ → Seen → Seen → Seen → Seen → Type 0
+IsExpectedOf config src answer status out out' err err' =
+    IsConverted config contexts_of_a_run src answer ⊎ (status ≡ READ_FAULT) ⊎ IsUnwritten status out out' err err'
 
--- a run without a bad word on these bytes ended so
-abbrev pub IsRunOf : List ℕ → ℕ → Seen → Seen → Seen → Seen → Type 0
-IsRunOf src status out out' err err' = (answer : Result (List ℕ) TsError) × IsExpectedOf src answer status out out' err err' × Ran (expected_of answer) status out out' err err'
+-- a run without a bad word, by these options and on these bytes, ended so
+abbrev pub IsRunOf : Config → List ℕ → ℕ → Seen → Seen → Seen → Seen → Type 0
+IsRunOf config src status out out' err err' =
+    (answer : Result (List ℕ) TsError) × IsExpectedOf config src answer status out out' err err' × Ran (expected_of answer) status out out' err err'
 
--- A run of the program: of a bad word, if there is one, and a source with these bytes left, where it tells them.
+-- A run of the program: by the options that its words name, of a bad word, if there is one, and a source with these bytes left, where it tells them.
 -- The faults are those that the source and the output counted in the run.
-pub record IsRun (bad : Option (List ℕ)) (left : Option (List ℕ)) (status : ℕ) (read_fault write_fault : Type 0) (out out' err err' : Seen) : Type 0 where
+pub record IsRun (config : Config) (bad : Option (List ℕ)) (left : Option (List ℕ)) (status : ℕ) (read_fault write_fault : Type 0) (out out' err err' : Seen) : Type 0 where
   -- the bytes that are read: all that the source had left, or the first of them
   pub src : List ℕ
   pub is_read : IfSome left (λ all. src ≡ first_read all)
   -- what they are converted to
   pub answer : Result (List ℕ) TsError
-  pub is_expected : bad ≡ None → IsExpectedOf src answer status out out' err err'
+  pub is_expected : bad ≡ None → IsExpectedOf config src answer status out out' err err'
   -- status, output and errors are those expected of the word and of that
   pub ran : Ran (expected bad answer) status out out' err err'
   -- where the run is done, what the output took is a conversion of these bytes
-  pub converts : status ≡ DONE → IsConversion contexts_of_a_run src (expected bad answer).text
+  pub converts : status ≡ DONE → IsConversion config contexts_of_a_run src (expected bad answer).text
   -- no module is refused for want of contexts: the line of a refusal is another
   pub enough : status ≡ REFUSED → (expected bad answer).line ≢ fault_line error.Spent
   -- a valid module is not refused, and without a bad word and a fault it is converted, unless memory runs out
-  pub refuses : status ≡ REFUSED → IsValid contexts_of_a_run src → ⊥
-  pub complete : bad ≡ None → IsValid contexts_of_a_run src → ¬ read_fault → ¬ write_fault → (status ≡ DONE) ⊎ (status ≡ NO_MEMORY)
+  pub refuses : status ≡ REFUSED → IsValid config contexts_of_a_run src → ⊥
+  pub complete : bad ≡ None → IsValid config contexts_of_a_run src → ¬ read_fault → ¬ write_fault → (status ≡ DONE) ⊎ (status ≡ NO_MEMORY)

@@ -2,6 +2,7 @@
 ghost use Rattle.std.specs.Prelude.{◌≡◌};
 ghost use Rattle.ts_to_js.specs.declared.error.TsError.TheVariants as error;
 
+use ecma_exports::ExportError;
 use ecma_scope::ScopeError;
 use ecma_text::ReadError;
 use ecma_tree::{JsWord, NoMemory};
@@ -20,7 +21,7 @@ pub enum TsError {
     #[error("too deep at {at}")]
     TooDeep { at: u32 },
     /// The grammar reads no module there, and the place is the greatest one at which a terminal failed; or a node that begins there breaks a
-    /// context rule, or is of a form that is not taken and does not go with the types, and the place is the least of such a node.
+    /// context rule, or is of a form that has to be lowered and does not go with the types, and the place is the least of such a node.
     #[error("syntax error at {at}")]
     Syntax { at: u32 },
     /// The session has fewer marks left than the module needs (`ecma_scope::needs`).
@@ -29,6 +30,12 @@ pub enum TsError {
     /// This name is declared again where it may not be; it is the first such name in the text (`ecma_scope::check_scopes`).
     #[error("{name:?} is declared again")]
     Redeclared { name: JsWord },
+    /// This name is exported in braces, and nothing that stays declares it; it is the first such name in the text (`ecma_exports::check_exports`).
+    #[error("{name:?} is exported and not declared")]
+    ExportUnbound { name: JsWord },
+    /// This name is declared behind `export`, and would have to change its text; it is the first such name in the text (`ecma_exports::check_exports`).
+    #[error("{name:?} is exported and would be captured")]
+    Captured { name: JsWord },
     /// There was no memory. This alone has no cause in the source.
     #[error("out of memory")]
     NoMemory,
@@ -65,6 +72,20 @@ impl From<ScopeError> for TsError {
         match reason {
             ScopeError::Redeclared { name } => TsError::Redeclared { name },
             ScopeError::NoMemory => TsError::NoMemory,
+        }
+    }
+}
+
+impl From<ExportError> for TsError {
+    ghost use Rattle.ts_to_js.specs.Refusals.{refusal_of_exports};
+
+    ghost from_gives = { λ reason result. result ≡ refusal_of_exports reason };
+
+    fn from(reason: ExportError) -> TsError {
+        match reason {
+            ExportError::Unbound { name } => TsError::ExportUnbound { name },
+            ExportError::Captured { name } => TsError::Captured { name },
+            ExportError::NoMemory => TsError::NoMemory,
         }
     }
 }

@@ -1,15 +1,17 @@
 //! The program over devices: its words, its status, and the line that it writes for a refusal.
 ghost use Rattle.std.specs.Prelude.{◌≡◌, ◌≢◌, ◌⊎◌, ◌+◌, ℕ, List, Result, IfSome, IsSome};
-ghost use Rattle.std.specs.Option.{option_copied};
 ghost use Rattle.devices.specs.Counts.{CountedAtMost, CountedExactlyIf, Rose};
 ghost use Rattle.ts_to_js.specs.Answer.{Answers};
-ghost use Rattle.ts_to_js.specs.Running.{bad_word, expected_of, IsRunOf, IsUnwritten, first_read, seen, written_status, reported_status, Refuses, NoRunIsSpent, Ran, IsRun};
+ghost use Rattle.ts_to_js.specs.Running.{expected_of, IsRunOf, IsUnwritten, first_read, seen, written_status, reported_status, Refuses, NoRunIsSpent, Ran, IsRun};
+ghost use Rattle.ts_to_js.specs.Words.{bad_word, config_of};
 
-use crate::convert::{LIMIT, Options, ts_to_js};
+use crate::convert::{LIMIT, ts_to_js};
 use crate::error::TsError;
+use crate::options::{Options, bad_word, config_of};
 use crate::report::{write_fault, write_line};
 use devices::{ReadFault, Sink, SinkError, Source, read_up_to, write_all};
-use ecma_pipeline::written_modules_do_what_their_sources_do;
+use ecma_config::Config;
+use ecma_pipeline::converted_modules_do_what_their_sources_do;
 use ecma_text_contexts::needed_is_bounded_by_the_text;
 use ecma_tree::Session;
 use std::alloc::Global;
@@ -19,7 +21,7 @@ use std::rc::RcStr;
 pub const DONE: u8 = 0;
 /// The status of a run whose module was refused for another cause than memory.
 pub const REFUSED: u8 = 1;
-/// The status of a run with a word that is not known.
+/// The status of a run with a word that is unknown or repeated.
 pub const BAD_WORD: u8 = 2;
 /// The status of a run whose source failed.
 pub const READ_FAULT: u8 = 3;
@@ -29,8 +31,9 @@ pub const WRITE_FAULT: u8 = 4;
 pub const NO_MEMORY: u8 = 5;
 
 /// All that the program does. It takes the words after its name, reads the source to its end, or its
-/// first `LIMIT + 1` bytes where there are more, converts them, and writes the text to `out` or the
-/// line of the refusal to `err`. No word is known yet.
+/// first `LIMIT + 1` bytes where there are more, converts them by the options that the words name, and
+/// writes the text to `out` or the line of the refusal to `err`. The words are `--verbatim`,
+/// `--preserve-unused` and `--no-empty-export`, in any order, each once at most.
 pub fn run<S: Source, O: Sink, E: Sink>(
     alloc: Global,
     words: &[RcStr],
@@ -49,16 +52,16 @@ pub fn run<S: Source, O: Sink, E: Sink>(
 
     // Status, output and errors are those of the words and the bytes that were read; what is written is
     // a conversion of them, and no refusal is want of contexts.
-    ensures run { IsRun (bad_word words.now) (S.left source.old) result
+    ensures run { IsRun (config_of words.now) (bad_word words.now) (S.left source.old) result
         (Rose (S.faults source.old) (S.faults source.new)) (Rose (O.faults out.old) (O.faults out.new))
         (seen O.taken O.faults O.calls out.old) (seen O.taken O.faults O.calls out.new)
         (seen E.taken E.faults E.calls err.old) (seen E.taken E.faults E.calls err.new) }
 {
-    written_modules_do_what_their_sources_do();
+    converted_modules_do_what_their_sources_do();
     no_run_is_spent();
     match bad_word(words) {
         Some(word) => reported(write_line(err, "error: bad word ", word), BAD_WORD),
-        None => run_source(alloc, source, out, err),
+        None => run_source(alloc, &config_of(words), source, out, err),
     }
 }
 
@@ -69,18 +72,10 @@ pub fn no_run_is_spent()
     needed_is_bounded_by_the_text();
 }
 
-fn bad_word(words: &[RcStr]) -> Option<&str>
-    ensures { option_copied result ≡ bad_word words.now }
-{
-    match words {
-        [] => None,
-        [word, ..] => Some(word.as_str()),
-    }
-}
-
 /// Reads the source, converts its bytes, and writes what comes of them.
 fn run_source<S: Source, O: Sink, E: Sink>(
     alloc: Global,
+    config: &Config,
     source: &mut S,
     out: &mut O,
     err: &mut E,
@@ -89,25 +84,34 @@ fn run_source<S: Source, O: Sink, E: Sink>(
     ensures read_fault { CountedExactlyIf (result ≡ READ_FAULT) (S.faults source.old) (S.faults source.new) }
     ensures write_fault { CountedExactlyIf (result ≡ WRITE_FAULT) (O.faults out.old) (O.faults out.new) }
     ensures run { (src : List ℕ) × IfSome (S.left source.old) (λ left. src ≡ first_read left)
-        × IsRunOf src result (seen O.taken O.faults O.calls out.old) (seen O.taken O.faults O.calls out.new)
+        × IsRunOf config.now src result (seen O.taken O.faults O.calls out.old) (seen O.taken O.faults O.calls out.new)
         (seen E.taken E.faults E.calls err.old) (seen E.taken E.faults E.calls err.new) }
 {
     match read_up_to(alloc, source, LIMIT + 1) {
-        Ok(src) => convert(alloc, &src, out, err),
+        Ok(src) => convert(alloc, config, &src, out, err),
         Err(ReadFault::SourceFailed) => READ_FAULT,
         Err(ReadFault::NoMemory) => NO_MEMORY,
     }
 }
 
 /// Converts the bytes, and writes the text or the line of the refusal.
-fn convert<O: Sink, E: Sink>(alloc: Global, src: &[u8], out: &mut O, err: &mut E) -> u8
+fn convert<O: Sink, E: Sink>(
+    alloc: Global,
+    config: &Config,
+    src: &[u8],
+    out: &mut O,
+    err: &mut E,
+) -> u8
     ensures write_fault { CountedExactlyIf (result ≡ WRITE_FAULT) (O.faults out.old) (O.faults out.new) }
     ensures no_read_fault { result ≢ READ_FAULT }
-    ensures run { IsRunOf src.now result (seen O.taken O.faults O.calls out.old) (seen O.taken O.faults O.calls out.new)
+    ensures run { IsRunOf config.now src.now result (seen O.taken O.faults O.calls out.old) (seen O.taken O.faults O.calls out.new)
         (seen E.taken E.faults E.calls err.old) (seen E.taken E.faults E.calls err.new) }
 {
     let mut session = Session::new(u32::MAX);
-    let options = Options { program_ends: true };
+    let options = Options {
+        config: *config,
+        program_ends: true,
+    };
     let answer = ts_to_js(alloc, &mut session, src, &options);
     tell(answer, out, err)
 }

@@ -60,6 +60,8 @@ pub(crate) fn write_fault<K: Sink>(sink: &mut K, refusal: &TsError) -> Result<()
             write_line(sink, head, digits.format(*at))
         }
         TsError::Redeclared { name } => write_line(sink, head, name.as_str()),
+        TsError::ExportUnbound { name } => write_line(sink, head, name.as_str()),
+        TsError::Captured { name } => write_line(sink, head, name.as_str()),
         TsError::TooLong | TsError::NotUtf8 | TsError::Spent | TsError::NoMemory => {
             write_line(sink, head, "")
         }
@@ -76,6 +78,8 @@ fn fault_head(refusal: &TsError) -> &'static str
         TsError::Syntax { .. } => "error: Syntax at ",
         TsError::Spent => "error: Spent",
         TsError::Redeclared { .. } => "error: Redeclared ",
+        TsError::ExportUnbound { .. } => "error: ExportUnbound ",
+        TsError::Captured { .. } => "error: Captured ",
         TsError::NoMemory => "error: NoMemory",
     }
 }

@@ -1,5 +1,6 @@
 //! Runs of the whole program over devices in memory; conversions and refusals by topic stand in the modules beside.
 mod expressions;
+mod modules;
 mod names;
 mod refusals;
 mod statements;
@@ -7,6 +8,7 @@ mod texts;
 
 use super::*;
 use devices::VecSink;
+use ecma_config::Config;
 use ecma_print::print_module;
 use ecma_strip::strip_type;
 use ecma_text::read_module;
@@ -204,6 +206,69 @@ fn modules_are_converted_or_refused(rt: HostRuntime) -> Result<(), Fail> {
     Ok(())
 }
 
+#[test]
+fn imports_and_exports_are_written(rt: HostRuntime) -> Result<(), Fail> {
+    for row in &modules::MODULES {
+        check(&rt, rt.alloc(), row)?;
+    }
+    Ok(())
+}
+
+/// What comes of a module that imports a type, by these words.
+fn with_words(
+    alloc: Global,
+    words: &[&str],
+    out: &mut VecSink,
+    err: &mut VecSink,
+) -> Result<u8, AllocError> {
+    let mut all = Vec::new(alloc);
+    for word in words {
+        all.push(RcStr::from_str(alloc, word)?)?;
+    }
+    let src = "import { A } from \"m\"; let x: A;";
+    let mut source = SliceSource::new(src.as_bytes().to_vec(alloc)?);
+    Ok(run(alloc, &all, &mut source, out, err))
+}
+
+#[test]
+fn words_come_in_any_order_and_once(rt: HostRuntime) -> Result<(), Fail> {
+    let alloc = rt.alloc();
+    let rows = [
+        (
+            ["--no-empty-export", "--preserve-unused"],
+            DONE,
+            "import \"m\";\nlet x;\n",
+            "",
+        ),
+        (
+            ["--preserve-unused", "--no-empty-export"],
+            DONE,
+            "import \"m\";\nlet x;\n",
+            "",
+        ),
+        (
+            ["--verbatim", "--verbatim"],
+            BAD_WORD,
+            "",
+            "error: bad word --verbatim\n",
+        ),
+        (
+            ["--no-empty-export", "-x"],
+            BAD_WORD,
+            "",
+            "error: bad word -x\n",
+        ),
+    ];
+    for (words, status, text, line) in rows {
+        let mut out = VecSink::new(alloc);
+        let mut err = VecSink::new(alloc);
+        assert_eq!(rt; with_words(alloc, &words, &mut out, &mut err)?, status);
+        assert_eq!(rt; out.taken(), text.as_bytes());
+        assert_eq!(rt; err.taken(), line.as_bytes());
+    }
+    Ok(())
+}
+
 /// A module, and what is written for it; or the line of its refusal.
 struct Case {
     src: &'static str,
@@ -243,6 +308,7 @@ fn modules_of_all_forms_are_converted_or_refused(rt: HostRuntime) -> Result<(), 
 fn spent(alloc: Global, left: u32) -> bool {
     let mut session = ecma_tree::Session::new(left);
     let options = Options {
+        config: Config::default(),
         program_ends: false,
     };
     let answer = ts_to_js(alloc, &mut session, b"let x: number = f(1);", &options);

@@ -2,15 +2,15 @@
 use super::Case;
 
 pub(super) const REFUSED: [Case; 22] = [
-    // import
+    // import assignment
     Case {
-        src: r#"f(); import { a } from "m";"#,
+        src: "f(); import a = b.c;",
         want: r#"error: Syntax at 5
 "#,
     },
-    // export
+    // export assignment
     Case {
-        src: "let x: T; export const a = 1;",
+        src: "let x: T; export = x;",
         want: r#"error: Syntax at 10
 "#,
     },
@@ -37,15 +37,15 @@ pub(super) const REFUSED: [Case; 22] = [
         want: r#"error: Syntax at 43
 "#,
     },
-    // import and export of types
+    // export of a namespace, and of an enum
     Case {
-        src: r#"f(); import type { a } from "m";"#,
-        want: r#"error: Syntax at 5
+        src: "f(); export namespace N { let a }",
+        want: r#"error: Syntax at 12
 "#,
     },
     Case {
-        src: "declare namespace N { export { a } } export interface I {}",
-        want: r#"error: Syntax at 37
+        src: "declare namespace N { export { a } } export enum E {}",
+        want: r#"error: Syntax at 44
 "#,
     },
     // enum in a block

@@ -1,7 +1,8 @@
-use Rattle.std.proofs.Common.{sym}
+use Rattle.std.proofs.Common.{length, sym}
 use Rattle.ecma_modules.specs.Modules.{deepest, typescript}
-use Rattle.ecma_text_sorts.proofs.Finished.{read_sorted}
+use Rattle.ts_to_js.proofs.Steps.{not-long}
 use Rattle.ts_to_js.proofs.convert.convert_text.Goals as goal
 
-pub convert_tree-requires-clause-sorted : goal.convert_tree-requires-clause-sorted
-convert_tree-requires-clause-sorted c = read_sorted c.args.text.now typescript deepest c.in_ok-tree.tree (sym c.in_ok-tree.ensures)
+pub convert_tree-requires-clause-source : goal.convert_tree-requires-clause-source
+convert_tree-requires-clause-source c =
+    c.trees_that_are_read_are_read.ensures c.args.text.now typescript deepest c.in_ok-tree.tree c.utf8.text (not-long (length c.args.text.now) c.requires) (sym c.in_ok-tree.ensures)

@@ -3,8 +3,8 @@ use Rattle.ts_to_js.proofs.convert.ts_to_js.Goals as goal
 
 pub returns-clause-conversion : goal.returns-clause-conversion
 returns-clause-conversion c =
-    answered-conversion c.written_modules_do_what_their_sources_do.ensures c.args.session.now.left c.args.src.now c.convert_bytes.result c.convert_bytes.ensures.text
+    answered-conversion c.converted_modules_do_what_their_sources_do.ensures c.args.options.now.config c.args.session.now.left c.args.src.now c.convert_bytes.result c.convert_bytes.ensures.text
 
 pub returns-clause-valid : goal.returns-clause-valid
 returns-clause-valid c =
-    answered-valid c.args.session.now.left c.args.src.now c.convert_bytes.result c.convert_bytes.ensures.text
+    answered-valid c.args.options.now.config c.args.session.now.left c.args.src.now c.convert_bytes.result c.convert_bytes.ensures.text
