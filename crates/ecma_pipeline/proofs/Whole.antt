@@ -31,7 +31,7 @@ use Rattle.ecma_pipeline.specs.Ways.{final_text}
 use Rattle.ecma_pipeline.proofs.Interfaces.{source_has_none, written_has_none}
 use Rattle.ecma_ready.specs.Ready.{HasOwnContexts, IsReady}
 use Rattle.ecma_pipeline.specs.Laws.{BoundSourcesAreReady, BoundSourcesRunAlike, FinalTreesFit, ReadyTreesAreWritten, WrittenModulesDoWhatTheirSourcesDo}
-use Rattle.ecma_pipeline.proofs.Exportless.{source_is_exportless}
+use Rattle.ecma_pipeline.proofs.Exportless.{exportless_texts}
 use Rattle.ecma_pipeline.proofs.Sourced.{sources_stay}
 
 pub record Laws : Type 0 where
@@ -86,11 +86,11 @@ written_modules laws unresolved top left bound text source final utf8 short read
     let fits : Fits final = laws.fit false unresolved whole final ready is.hygienic in
     let plain : IsReadPlain false final =
     laws.plain unresolved top left (with_bound_names tree) final (laws.bound_read tree enclosed_read) (laws.bound_taken tree taken) is.hygienic fits in
-    let bare = source_is_exportless unresolved top left (with_bound_names tree) (laws.bound_read tree enclosed_read) (laws.bound_taken tree taken) in
-    let made = laws.written false unresolved whole final ready own bare is.hygienic in
+    let names_of = final_text is.hygienic in
+    let exported = exportless_texts unresolved top left (with_bound_names tree) (laws.bound_read tree enclosed_read) (laws.bound_taken tree taken) names_of in
+    let made = laws.written false unresolved whole final ready own is.hygienic exported in
     let later = laws.later unresolved top left (with_bound_names tree) final (laws.bound_read tree enclosed_read) (laws.bound_taken tree taken) is.hygienic in
     let reading : IsReading final made.written = made.again ∙ ap (λ (n : Node). without_spans (explicit (without_contexts n))) (sources_stay final plain.taken) in
-    let names_of = final_text is.hygienic in
     record {
       written = made.written;
       plain = made.plain;

@@ -1,5 +1,5 @@
 -- What is written for a tree that is ready, by the laws of each step: literals without source text have that which is written for them.
-use Rattle.std.proofs.Common.{◌≡◌, ◌∙◌, ◌≤◌, ℕ, Bool, true, [], refl, sym, ap, subst}
+use Rattle.std.proofs.Common.{◌≡◌, ◌∙◌, ◌≤◌, ℕ, Bool, [], refl, sym, ap, subst}
 use Rattle.ecma_tree.specs.Spans.{without_spans}
 use Rattle.ecma_tree.specs.declared.node.Node.{Node}
 use Rattle.ecma_plain.specs.Texts.{IsPlainModule}
@@ -11,7 +11,9 @@ use Rattle.ecma_scope.specs.Resolved.{resolved, AreGiven}
 use Rattle.ecma_scope_congruence.specs.Laws.{SpansDoNotMatterToConflicts, SpansDoNotMatterToContexts}
 use Rattle.ecma_strip.specs.Stripping.{stripped}
 use Rattle.ecma_hygiene.specs.Hygienic.{IsHygienic}
-use Rattle.ecma_hygiene_runs.specs.Exports.{exports_nothing}
+use Rattle.ecma_hygiene.specs.Renamed.{text_of}
+use Rattle.ecma_hygiene.specs.Texts.{text_in}
+use Rattle.ecma_hygiene_runs.specs.Exports.{KeepsExportedTexts}
 use Rattle.ecma_config.specs.declared.config.Config.{Config}
 use Rattle.ecma_runs.specs.declared.script.Script.{Script}
 use Rattle.ecma_runs.specs.Observation.{observe}
@@ -38,8 +40,8 @@ pub record Laws : Type 0 where
   pub conflicts : SourcesDoNotMatterToConflicts
   pub source_runs : SourcesDoNotMatterToRuns
 
-module _ (laws : Laws) (assignments : Bool) (free : ℕ) (tree final : Node) (is : IsReady assignments free tree) (own : HasOwnContexts tree) (bare : exports_nothing (stripped tree) ≡ true)
-    (hygienic : IsHygienic (stripped tree) final) where
+module _ (laws : Laws) (assignments : Bool) (free : ℕ) (tree final : Node) (is : IsReady assignments free tree) (own : HasOwnContexts tree) (hygienic : IsHygienic (stripped tree) final)
+    (exported : KeepsExportedTexts (text_of (text_in hygienic.names)) (stripped tree)) where
   -- what would be read, were it not for the source texts of literals
   abbrev whole : Node
   whole = explicit (without_contexts final)
@@ -72,15 +74,15 @@ module _ (laws : Laws) (assignments : Bool) (free : ℕ) (tree final : Node) (is
         ∙ without_spans_kept turns options (resolved unresolved top left (with_sources whole)) script
         ∙ ap (λ n. observe turns options n script) ((laws.contexts whole).same unresolved top left)
         ∙ laws.source_runs turns options (resolved unresolved top left whole) script
-        ∙ laws.runs assignments free tree final whole is own bare hygienic refl unresolved top left given_whole turns options script
+        ∙ laws.runs assignments free tree final whole is own hygienic exported refl unresolved top left given_whole turns options script
 
 pub trees_are_written : Laws → ReadyTreesAreWritten
-trees_are_written laws assignments free tree final is own bare hygienic =
-    let again = made laws assignments free tree final is own bare hygienic in
+trees_are_written laws assignments free tree final is own hygienic exported =
+    let again = made laws assignments free tree final is own hygienic exported in
     record {
       written = again.0;
       plain = again.1;
       again = again.2;
-      distinct = none_again laws assignments free tree final is own bare hygienic;
-      runs = λ unresolved top left given. runs_alike laws assignments free tree final is own bare hygienic unresolved top left given;
+      distinct = none_again laws assignments free tree final is own hygienic exported;
+      runs = λ unresolved top left given. runs_alike laws assignments free tree final is own hygienic exported unresolved top left given;
     }

@@ -1,5 +1,5 @@
 -- A module on its whole way: from its text to the text that is written for it, and what that does; and the parts of this law.
-use Rattle.std.specs.Prelude.{◌≡◌, ◌<◌, ◌^◌, ◌-◌, ℕ, Bool, true, false, List, Ok, length, None, []}
+use Rattle.std.specs.Prelude.{◌≡◌, ◌<◌, ◌^◌, ◌-◌, ℕ, Bool, false, List, Ok, length, None, []}
 use Rattle.std.specs.Str.{IsUtf8}
 use Rattle.ecma_kind.specs.declared.shapes.Sort.TheVariants as sort
 use Rattle.ecma_tree.specs.declared.node.Node.{Node}
@@ -10,9 +10,11 @@ use Rattle.ecma_forms.specs.Forms.{first_untaken}
 use Rattle.ecma_scope.specs.Resolved.{resolved, AreGiven}
 use Rattle.ecma_strip.specs.Stripping.{stripped}
 use Rattle.ecma_hygiene.specs.Hygienic.{IsHygienic}
+use Rattle.ecma_hygiene.specs.Renamed.{text_of}
+use Rattle.ecma_hygiene.specs.Texts.{text_in}
 use Rattle.ecma_bind.specs.Binding.{with_bound_names}
 use Rattle.ecma_hygiene_fits.specs.Spelled.{NoneLong}
-use Rattle.ecma_hygiene_runs.specs.Exports.{exports_nothing}
+use Rattle.ecma_hygiene_runs.specs.Exports.{KeepsExportedTexts}
 use Rattle.ecma_scope.specs.Conflicts.{redeclared}
 use Rattle.ecma_sources.specs.Sources.{IsReading, IsSource}
 use Rattle.ecma_config.specs.declared.config.Config.{Config}
@@ -49,12 +51,12 @@ WrittenModulesAreNotRedeclared =
     (assignments : Bool) (free : ℕ) (tree final written : Node) → IsReady assignments free tree → HasOwnContexts tree → IsHygienic (stripped tree) final → IsReading final written
     → redeclared written ≡ []
 
--- so what is written for a tree that is ready, exports nothing, and whose scopes have contexts of their own, does what the tree does, whether or not its literals have source
--- texts
+-- so what is written for a tree that is ready, and whose scopes have contexts of their own, does what the tree does where declarations that are exported keep their texts,
+-- whether or not its literals have source texts
 abbrev pub ReadyTreesAreWritten : Type 0
 ReadyTreesAreWritten =
-    (assignments : Bool) (free : ℕ) (tree final : Node) → IsReady assignments free tree → HasOwnContexts tree → exports_nothing (stripped tree) ≡ true → IsHygienic (stripped tree) final
-    → DoesWhatItsTreeDoes assignments tree final
+    (assignments : Bool) (free : ℕ) (tree final : Node) → IsReady assignments free tree → HasOwnContexts tree → (is : IsHygienic (stripped tree) final)
+    → KeepsExportedTexts (text_of (text_in is.names)) (stripped tree) → DoesWhatItsTreeDoes assignments tree final
 
 -- a module with bound names, resolved, is observed to do what the resolved module does
 abbrev pub BoundSourcesRunAlike : Type 0

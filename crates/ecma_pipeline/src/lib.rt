@@ -14,7 +14,7 @@
 //! | All of it: what is written is plain, and does what its source does. | | `ecma_pipeline_plain`, `ecma_pipeline_runs`, and here |
 //!
 //! The way has two halves. A source is bound and resolved, and is ready then (`bound_sources_are_ready`); what is written for a tree that is ready does what the
-//! tree does (`ready_trees_are_written`). A pass that lowers stands between the two: it owes that what it makes of a tree is ready, exports nothing, and runs alike.
+//! tree does (`ready_trees_are_written`). A pass that lowers stands between the two: it owes that what it makes of a tree is ready, and runs alike.
 //! What ready is stands in `ecma_ready`.
 //!
 //! Each function carries one law over the definitions, and does nothing but to call upon the laws that it is put together of. The laws are stated in
@@ -75,9 +75,9 @@ pub fn written_modules_do_what_their_sources_do()
     bound_sources_run_alike();
 }
 
-/// What is written for a tree that is ready, of which no export is left without its types, and whose scopes have contexts of their own, is read again as a plain
-/// module, of the tree that was written, declares no name again where it may not be, and is observed to do what the tree does: whether or not its literals
-/// have source texts.
+/// What is written for a tree that is ready, and whose scopes have contexts of their own, is read again as a plain module, of the tree that was written, declares
+/// no name again where it may not be, and is observed to do what the tree does, where declarations that are exported keep their texts: whether or not its
+/// literals have source texts.
 pub fn ready_trees_are_written()
     ensures { ReadyTreesAreWritten }
 {
