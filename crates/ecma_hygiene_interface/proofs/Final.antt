@@ -18,7 +18,7 @@ use Rattle.ecma_fits.specs.Counts.{are_exports, are_imports, has_attributes_at, 
 use Rattle.ecma_fits.specs.Fitting.{Fits, at_top, where_in}
 use Rattle.ecma_scope.specs.declared.role.Role.{Role}
 use Rattle.ecma_scope.specs.declared.role.Role.TheVariants as role
-use Rattle.ecma_scope.specs.Scopes.{is_there, of_exports, passes_in_list, role_by, role_in, there_by}
+use Rattle.ecma_scope.specs.Scopes.{is_there, of_exports, passes_in_list, role_by, role_in}
 use Rattle.ecma_strip.specs.Staying.{if_there, is_declared, stays}
 use Rattle.ecma_strip_fits.proofs.Strays.{not_failing}
 use Rattle.ecma_bind_fits.proofs.Bound.{parts_none}
@@ -209,9 +209,10 @@ and-right : (a b : Bool) → (a && b) ≡ true → b ≡ true
 and-right true b h = h
 and-right false b h = cc
 
-there_present : (o : Option Node) → there_by o ≡ of_kind is_present o
-there_present None = refl
-there_present (Some n) = refl
+there_present : (cs : List Node) (i : ℕ) → is_there cs i ≡ of_kind is_present (slice_get cs i)
+there_present [] i = refl
+there_present (c ∷ cs) zero = refl
+there_present (c ∷ cs) (suc i) = there_present cs i
 
 module _ (texts : Texts) (x : Node) (w : Where) (stands : Standing) (shaped : HasShape (one sort.ModuleItem) x) (at : Stands x w) (full : is_full_by (kind_of x) x ≡ true) where
   abbrev y : Node
@@ -302,7 +303,7 @@ module _ (texts : Texts) (x : Node) (w : Where) (stands : Standing) (shaped : Ha
       has = ap (λ (z : List Node). of_kind is_present (slice_get z 1)) (children_kept (kind.NamedExport false) e refl) ∙ present_kept texts (children_of x) 1 u (standing_in stands x) 0
 
       sourced : (b : Bool) → has_child x 1 ≡ b → role_in stands.role x 0 ≡ of_exports b 0
-      sourced b s = ap (λ z. role_by stands.role z (is_there (children_of x) 1) 0) e ∙ ap (λ z. of_exports z 0) (there_present (slice_get (children_of x) 1) ∙ s)
+      sourced b s = ap (λ z. role_by stands.role z (is_there (children_of x) 1) 0) e ∙ ap (λ z. of_exports z 0) (there_present (children_of x) 1 ∙ s)
 
       named : (b : Bool) → has_child x 1 ≡ b → TellsBy (kind.NamedExport false)
       named true s =

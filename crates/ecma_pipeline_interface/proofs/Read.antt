@@ -1,4 +1,4 @@
--- What is read of the text that is written for a tree that is ready has the interface of the tree.
+-- What is read of the layout of a module has its interface, and source texts of literals do not matter to it.
 use Rattle.std.proofs.Common.{◌≡◌, ◌∙◌, ◌||◌, ℕ, [], List, Option, refl, sym, ap, ap₂, subst}
 use Rattle.ecma_number.specs.declared.js_number.JsNumber.{JsNumber}
 use Rattle.ecma_kind.specs.Sorts.{belongs}
@@ -13,18 +13,12 @@ use Rattle.ecma_tree.specs.declared.node.Node.{Node}
 use Rattle.ecma_tree.specs.Laws.{KeepsShapes}
 use Rattle.ecma_tree.specs.Sorted.{HasSort, allows_by, child_shapes, is_absent, is_list, one}
 use Rattle.ecma_tree.proofs.ShapeLaws.{changes_keep_shapes, contexts_keep_sorts, spans_keep_sorts}
-use Rattle.ecma_fits.specs.Fitting.{Fits}
-use Rattle.ecma_hygiene.specs.Renamed.{text_of}
-use Rattle.ecma_hygiene.specs.Texts.{text_in}
-use Rattle.ecma_hygiene_fits.proofs.Sorts.{sorts_kept}
-use Rattle.ecma_hygiene_interface.proofs.Final.{final_texts_keep}
 use Rattle.ecma_interface.specs.Names.{Id}
 use Rattle.ecma_interface.specs.Reading.{interface_of, own_text}
 use Rattle.ecma_interface_laws.proofs.Alike.{Related, Step, dull, named, quoted}
 use Rattle.ecma_interface_laws.proofs.Changed.{Becomes, changed_interfaces, contexts_keep, spans_keep, usual}
 use Rattle.ecma_interface_laws.proofs.Looking.{is_dull, is_told, matters}
-use Rattle.ecma_pipeline_interface.specs.Laws.{LiteralsKeepInterfaces, ReadTreesKeepInterfaces, WrittenTreesHaveTheirInterface}
-use Rattle.ecma_pipeline_interface.proofs.Exported.{exports_kept}
+use Rattle.ecma_pipeline_interface.specs.Laws.{LiteralsKeepInterfaces, ReadTreesKeepInterfaces}
 use Rattle.ecma_plain.specs.Writable.{big_text}
 use Rattle.ecma_print.specs.Escapes.{made_text}
 use Rattle.ecma_print.specs.Explicit.{explicit}
@@ -32,9 +26,6 @@ use Rattle.ecma_print_interface.proofs.Explicit.{parentheses_keep}
 use Rattle.ecma_print_parentheses.proofs.Sorting.{sorts_are_kept}
 use Rattle.ecma_round_trip_literals.specs.Sources.{number_source, source_or, with_source, with_sources}
 use Rattle.ecma_scope.specs.Laws.{without_contexts}
-use Rattle.ecma_strip.specs.Stripping.{stripped}
-use Rattle.ecma_strip_fits.proofs.FitsKept.{fits_kept}
-use Rattle.ecma_strip_interface.proofs.Stripped.{stripping_keeps}
 
 -- ---- source texts of literals
 
@@ -117,17 +108,3 @@ read_keeps tree written sorted reading =
     ∙ spans_keep own_text (explicit bare) whole_sorted
     ∙ parentheses_keep own_text bare bare_sorted
     ∙ contexts_keep (λ sym ctxt. 0) tree sorted
-
--- ---- the whole way
-
-pub written_trees : WrittenTreesHaveTheirInterface
-written_trees assignments free tree final written ready is kept reading =
-    let left = stripped tree in
-    let fits : Fits left = fits_kept tree ready.fits ready.targets in
-    let texts = text_in is.names in
-    let final_sorted : HasSort sort.Module final = subst (HasSort sort.Module) (sym is.is) (sorts_kept texts left fits.sorted) in
-    read_keeps (with_sources final) written (sources_keep_sorts final final_sorted) reading
-    ∙ literals_keep own_text final final_sorted
-    ∙ ap (interface_of own_text) is.is
-    ∙ final_texts_keep texts left fits (exports_kept texts tree ready.fits ready.types fits kept)
-    ∙ stripping_keeps (text_of texts) tree ready.fits ready.types
