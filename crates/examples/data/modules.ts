@@ -18,6 +18,6 @@ const log = (entry: Entry): void => files.append(parse(entry.text) as string);
 export { log };
 export const levels: Level[] = [];
 export default class Logger<T extends Entry> {
-    constructor(readonly_entries: T[]) { readonly_entries.forEach(log); }
+    constructor(entries: T[]) { entries.forEach(log); }
 }
 export * from "./format";

@@ -41,10 +41,6 @@ accepted_name (Some name) unbound captured h = cc
 not_short : (needed left : ℕ) → nat_lt left needed ≡ false → needed ≤ left
 not_short needed left h = grind (arith, nat_tests)
 
--- nothing refuses it before its names are looked at
-pub early_enough : (left : ℕ) (tree : Node) → refused_early left tree ≡ None → needed tree ≤ left
-early_enough left tree h = not_short (needed tree) left (accepted_form (first_unlowered tree) (nat_lt left (needed tree)) h).1
-
 pub accepted : (config : Config) (left : ℕ) (tree : Node) → refused config left tree ≡ None → IsAccepted config left tree
 accepted config left tree h =
     let parts = accepted_by (refused_early left tree) (refused_late config left tree) h in

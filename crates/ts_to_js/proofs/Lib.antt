@@ -3,7 +3,6 @@ pub mod Pieces
 pub mod Runs
 pub mod Accepting
 pub mod Steps
-pub mod Answering
 pub mod Conversions
 pub mod Enough
 pub mod Outcomes
