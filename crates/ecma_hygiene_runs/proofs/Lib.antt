@@ -9,7 +9,6 @@ mod Apart
 mod SortedNames
 mod KeysShown
 mod FinalRuns
-pub mod Exports
 mod Specifiers
 mod Sorted
 mod Seeking
