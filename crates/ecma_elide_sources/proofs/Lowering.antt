@@ -8,8 +8,8 @@ use Rattle.ecma_rules.specs.Children.{child_holds, holds_of, kind_of}
 use Rattle.ecma_rules.specs.Failing.{failing_here, first_failing}
 use Rattle.ecma_rules.specs.Members.{has_body}
 use Rattle.ecma_fits.proofs.Walks.{not_failing}
-use Rattle.ecma_forms.specs.Forms.{first_unlowered, gone_inside, goes_from_list, is_ambient_variable, is_odd_by, is_unlowered, is_unlowered_kind, unlowered_here}
-use Rattle.ecma_strip.specs.Staying.{stays}
+use Rattle.ecma_forms.specs.Forms.{first_unlowered, gone_inside, goes_from_list, is_ambient_variable, is_odd_by, is_unlowered, is_unlowered_kind, names_this, unlowered_here}
+use Rattle.ecma_strip.specs.Staying.{is_this_ident, stays}
 use Rattle.ecma_elide_fits.specs.Dropping.{Dropping, loses_in}
 use Rattle.ecma_elide_fits.proofs.Dropped.{below, induct, loses_at}
 use Rattle.ecma_elide_sources.proofs.Staying.{stays_before}
@@ -67,11 +67,19 @@ module _ {S : Type 0} (d : Dropping S) where
       loses_none : loses_at d t.loses t.before 1 ≡ false
       loses_none = other (kind_of t.before) (thin_before d a b t ∙ ap bare e)
 
+  this_same : (a b : Node) → Thin d a b → is_list (kind_of b) ≡ false → names_this a ≡ names_this b
+  this_same a b t usual =
+      ap₂ (λ x y. x || y) (child_same d is_this_ident (λ text x y optional. refl) a b t (closed_other d a b t usual) 0)
+      (child_same d is_this_ident (λ text x y optional. refl) a b t (closed_other d a b t usual) 1)
+
   odd_same : (k : Kind) (a b : Node) → kind_of b ≡ k → Thin d a b → is_odd_by (bare k) a ≡ is_odd_by k b
   odd_same kind.FnExpr a b e t = ap not (body_same a b t e)
   odd_same kind.ForStmt a b e t = child_same d is_ambient_variable (λ text x y optional. refl) a b t (closed_other d a b t (ap is_list e)) 0
   odd_same kind.ForInStmt a b e t = child_same d is_ambient_variable (λ text x y optional. refl) a b t (closed_other d a b t (ap is_list e)) 0
   odd_same (kind.ForOfStmt is_await) a b e t = child_same d is_ambient_variable (λ text x y optional. refl) a b t (closed_other d a b t (ap is_list e)) 0
+  odd_same (kind.ImportNamedSpecifier is_type_only) a b e t = this_same a b t (ap is_list e)
+  odd_same (kind.ExportNamedSpecifier is_type_only) a b e t = this_same a b t (ap is_list e)
+  odd_same kind.ExportNamespaceSpecifier a b e t = this_same a b t (ap is_list e)
   odd_same _ a b e t = refl
 
   unlowered_same : (a b : Node) → Thin d a b → is_unlowered a ≡ is_unlowered b
