@@ -4,7 +4,7 @@ use Rattle.ecma_kind.specs.Sorts.{belongs}
 use Rattle.ecma_kind.specs.declared.kind.Kind.{Kind}
 use Rattle.ecma_kind.specs.declared.kind.Kind.TheVariants as kind
 use Rattle.ecma_kind.specs.declared.shapes.Sort.TheVariants as sort
-use Rattle.ecma_tree.specs.declared.node.Node.{Node, out-Node}
+use Rattle.ecma_tree.specs.declared.node.Node.{Node}
 use Rattle.ecma_tree.specs.Sorted.{is_list, one}
 use Rattle.ecma_rules.specs.Children.{child_holds, kind_of}
 use Rattle.ecma_rules.specs.Failing.{first_failing}
@@ -14,8 +14,8 @@ use Rattle.ecma_strip.specs.Staying.{is_this_ident}
 use Rattle.ecma_strip_fits.proofs.Strays.{none_failing}
 use Rattle.ecma_bind_fits.proofs.Bound.{whole_none}
 use Rattle.ecma_enclose.specs.Enclosing.{in_parentheses}
-use Rattle.ecma_enclose_fits.proofs.Adding.{Adds, Alone, children_of, enclosed_adds, is_open}
-use Rattle.ecma_enclose_fits.proofs.Alike.{Keeps, Same, by_kind, child_same, has_same, holds_usual, is_same, kind_same, span_same}
+use Rattle.ecma_enclose_fits.proofs.Adding.{Adds, Alone, enclosed_adds, is_open}
+use Rattle.ecma_enclose_fits.proofs.Alike.{Keeps, Same, by_kind, child_same, has_same, holds_usual, is_same, span_same}
 use Rattle.ecma_enclose_fits.proofs.Walk.{walk_kept}
 use Rattle.ecma_enclose_scopes.proofs.Declared.{paren_children, paren_kind}
 use Rattle.ecma_enclose_sources.specs.Laws.{EnclosedTreesAreTaken, EnclosedTreesNeedNoLowering}
