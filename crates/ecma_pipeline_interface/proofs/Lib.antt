@@ -1,2 +1,4 @@
+pub mod Exported
 pub mod Read
 pub mod Sourced
+pub mod Written

@@ -89,7 +89,7 @@ asked_same (kind.Number value raw) shape n = refl
 asked_same (kind.BigInt value raw) shape n = refl
 asked_same _ shape n = refl
 
-sources_keep_sorts : (tree : Node) → HasSort sort.Module tree → HasSort sort.Module (with_sources tree)
+pub sources_keep_sorts : (tree : Node) → HasSort sort.Module tree → HasSort sort.Module (with_sources tree)
 sources_keep_sorts tree h =
     let keeps : KeepsShapes with_source = record { allowed = λ shape k. allowed_same shape.count shape.sort k; asked = asked_same } in
     changes_keep_shapes (λ span. span) with_source keeps tree (one sort.Module) ∙ h
