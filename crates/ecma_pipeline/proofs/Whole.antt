@@ -1,5 +1,5 @@
 -- The laws of each step, one behind the other: from a tree as modules are read to what is written for it.
-use Rattle.std.proofs.Common.{◌∙◌, ℕ, Bool, false, sym, ap, ◌≡◌, ◌≤◌, List, [], None, subst}
+use Rattle.std.proofs.Common.{◌∙◌, ℕ, Bool, false, sym, ap, ◌≡◌, ◌≤◌, subst}
 use Rattle.ecma_kind.specs.declared.shapes.Sort.TheVariants as sort
 use Rattle.ecma_tree.specs.declared.node.Node.{Node}
 use Rattle.ecma_tree.specs.Sorted.{HasSort}
@@ -10,14 +10,10 @@ use Rattle.ecma_enclose.specs.Enclosing.{enclosed}
 use Rattle.ecma_enclose_runs.specs.Laws.{EnclosedTreesRunAlike}
 use Rattle.ecma_enclose_scopes.specs.Laws.{EnclosedTreesDeclareAlike, EnclosedTreesTakeAsManyContexts}
 use Rattle.ecma_enclose_sources.specs.Laws.{EnclosedTreesAreRead, EnclosedTreesNeedNoLowering}
-use Rattle.ecma_exports.specs.Exports.{first_captured}
 use Rattle.ecma_exports_hygiene.specs.Laws.{ExportsThatAreNotCapturedKeepTheirTexts}
-use Rattle.ecma_forms.specs.Forms.{first_unlowered}
 use Rattle.ecma_pipeline_names.specs.Laws.{EnclosingKeepsNamesShort}
-use Rattle.ecma_scope.specs.Conflicts.{redeclared}
 use Rattle.ecma_scope.specs.Laws.{without_contexts}
 use Rattle.ecma_scope.specs.Resolved.{AreGiven, resolved}
-use Rattle.ecma_scope.proofs.Unchanged.{keeps-sorts}
 use Rattle.ecma_hygiene.specs.Hygienic.{IsHygienic}
 use Rattle.ecma_hygiene.specs.Renamed.{renamed}
 use Rattle.ecma_hygiene.specs.Texts.{HygienicTexts, text_in}

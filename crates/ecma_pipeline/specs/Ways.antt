@@ -1,5 +1,5 @@
 -- A module and what is written for it.
-use Rattle.std.specs.Prelude.{◌≡◌, ℕ, Bool, List, [], None}
+use Rattle.std.specs.Prelude.{◌≡◌, ℕ, Bool, false, List, [], None}
 use Rattle.ecma_tree.specs.declared.node.Node.{Node}
 use Rattle.ecma_plain.specs.Texts.{IsPlainModule}
 use Rattle.ecma_print.specs.Layout.{layout}
