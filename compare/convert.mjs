@@ -4,8 +4,8 @@
 // PROGRAM reads a module from standard input, writes one to standard output, and ends with 1 and a line `error: ..` where it refuses. Files are
 // those that end in .ts, .mts and .cts, and with --plain in .js and .mjs too, with --most up to that size. TypeScript is Debian's
 // node-typescript, or the one that the variable TYPESCRIPT names. What TypeScript or acorn does not read is passed over, but counted where
-// the program reads it. With --blanked imports, exports, enums and namespaces that do not go with the types, the modifiers of parameters and
-// decorators are blanks first, so that all else of such files is compared. Each run of the program ends after N seconds (60), and so does TypeScript. What was
+// the program reads it. With --blanked import and export assignments, enums and namespaces that do not go with the types, the modifiers of
+// parameters and decorators are blanks first, so that all else of such files is compared. Each run of the program ends after N seconds (60), and so does TypeScript. What was
 // written is converted once more, and is to stay. A run that is ended by a signal tells what it has counted so far.
 import { spawnSync } from "node:child_process";
 import { readFileSync } from "node:fs";
@@ -84,8 +84,6 @@ function theirs(text) {
 
 // what is blanked
 
-const isItem = new Set([K.ImportDeclaration, K.ImportEqualsDeclaration, K.ExportDeclaration, K.NamespaceExportDeclaration]);
-const isWordOfItem = new Set([K.ExportKeyword, K.DefaultKeyword, K.Decorator]);
 const isWordOfParameter = new Set([K.PublicKeyword, K.PrivateKeyword, K.ProtectedKeyword, K.ReadonlyKeyword, K.OverrideKeyword]);
 
 const isAmbient = (n) => (n.modifiers ?? []).some((word) => word.kind === K.DeclareKeyword);
@@ -104,14 +102,10 @@ function blank(text) {
   }
   function visit(n) {
     const isPart = n.kind === K.EnumDeclaration || n.kind === K.ModuleDeclaration;
-    if (isItem.has(n.kind) || (isPart && !goes(n))) return putWhole(n);
-    if (n.kind === K.ExportAssignment) put(n.getStart(file), n.expression.getStart(file), "0,");
+    if (n.kind === K.ImportEqualsDeclaration || (isPart && !goes(n))) return putWhole(n);
+    if (n.kind === K.ExportAssignment && n.isExportEquals) put(n.getStart(file), n.expression.getStart(file), "0,");
     if (n.kind === K.Parameter) visitParameter(n);
-    const isNameless = (n.kind === K.FunctionDeclaration || n.kind === K.ClassDeclaration) && !n.name;
-    for (const word of n.modifiers ?? []) {
-      if (word.kind === K.DefaultKeyword && isNameless) putWhole(word, "0,");
-      else if (isWordOfItem.has(word.kind) || (word.kind === K.AbstractKeyword && isNameless)) putWhole(word);
-    }
+    for (const word of n.modifiers ?? []) if (word.kind === K.Decorator) putWhole(word);
     if (!isPart) ts.forEachChild(n, visit);
   }
   ts.forEachChild(file, visit);
