@@ -197,6 +197,11 @@ module _ (c : Node) where
       none-every _ (either-none (has_no_effect kind.ExportDefaultExpr (meaning e ∷ [])) c (role_by c kind.ExportDefaultExpr (meaning e ∷ [])) None refl)
   exports-by kind.ExportDefaultExpr [] around is are b p h plain here = absurd h
   exports-by kind.ExportDefaultExpr (d ∷ e ∷ cs) around is are b p h plain here = absurd h.1
+  exports-by kind.ExportDefaultDecl (d ∷ []) around is are b p h plain here =
+      none-every _
+      (either-none (has_no_effect kind.ExportDefaultDecl (meaning d ∷ [])) c (role_by c kind.ExportDefaultDecl (meaning d ∷ [])) None (names-as (codes "default") (meaning d).default_names))
+  exports-by kind.ExportDefaultDecl [] around is are b p h plain here = absurd h
+  exports-by kind.ExportDefaultDecl (d ∷ e ∷ cs) around is are b p h plain here = absurd h.1
   exports-by (kind.ExportAll false) (from ∷ attributes ∷ []) around is are b p h plain here =
       none-every _ (either-none (has_no_effect (kind.ExportAll false) (meaning from ∷ meaning attributes ∷ [])) c (role_by c (kind.ExportAll false) (meaning from ∷ meaning attributes ∷ [])) None refl)
   exports-by (kind.ExportAll false) [] around is are b p h plain here = absurd h
