@@ -10,7 +10,6 @@ use Rattle.ecma_tree.specs.Changing.{changed_here}
 use Rattle.ecma_tree.proofs.Layers.{from_leaves_out}
 use Rattle.ecma_rules.specs.Children.{kind_of}
 use Rattle.ecma_scope.specs.declared.form.Declaration.{Declaration}
-use Rattle.ecma_scope.specs.declared.form.Part.TheVariants as part
 use Rattle.ecma_scope.specs.declared.role.Role.{Role}
 use Rattle.ecma_scope.specs.declared.role.Role.TheVariants as role
 use Rattle.ecma_scope.specs.Scopes.{covers, is_ambient, is_root, is_there, opens, role_in}

@@ -1,5 +1,5 @@
 -- A module declares no other names without what goes of its imports and exports.
-use Rattle.std.proofs.Common.{◌≡◌, ◌∙◌, ℕ, zero, suc, Bool, true, false, ◌&&◌, ◌||◌, not, cond, List, [], ◌∷◌, ◌++◌, map, filter, Option, Some, None, refl, sym, ap, ap₂, subst, slice_get, bytes_eq}
+use Rattle.std.proofs.Common.{◌≡◌, ◌∙◌, ℕ, suc, Bool, true, false, ◌&&◌, ◌||◌, not, cond, List, [], ◌∷◌, ◌++◌, map, filter, Option, Some, None, refl, sym, ap, subst, slice_get, bytes_eq}
 use Rattle.std.proofs.lemmas.List.Folds.{list_any-append}
 use Rattle.ecma_kind.specs.declared.kind.Kind.{Kind}
 use Rattle.ecma_kind.specs.declared.kind.Kind.TheVariants as kind
@@ -17,7 +17,7 @@ use Rattle.ecma_scope.specs.declared.form.Part.{Part}
 use Rattle.ecma_scope.specs.declared.form.Part.TheVariants as part
 use Rattle.ecma_scope.specs.declared.form.Sought.{Sought}
 use Rattle.ecma_scope.specs.declared.role.Role.TheVariants as role
-use Rattle.ecma_scope.specs.Declarations.{declarations, declared_here, found_at, found_in, holds_vars, in_default, in_item, in_member, in_name, in_scope, in_var, keeps, sought_by, sought_in}
+use Rattle.ecma_scope.specs.Declarations.{declarations, declared_here, found_at, found_in, holds_vars, in_default, in_item, in_member, in_name, in_scope, keeps, sought_by, sought_in}
 use Rattle.ecma_elide_scopes.specs.Freeing.{module_names}
 use Rattle.ecma_elide_scopes.proofs.Blind.{declarations_out}
 use Rattle.ecma_elide_scopes.proofs.Quiet.{Sound, is_module, is_spine, sound_below, still}

@@ -1,36 +1,36 @@
 -- A module with its contexts, without what goes: it has those that it gets anew, once what is no more declared is free.
-use Rattle.std.proofs.Common.{◌≡◌, ◌∙◌, ◌≢◌, ◌<◌, ◌-◌, ℕ, suc, Bool, true, false, ◌&&◌, not, cond, List, [], ◌∷◌, ◌++◌, map, Some, refl, sym, ap, ap₂, subst, slice_get}
+use Rattle.std.proofs.Common.{◌≡◌, ◌∙◌, ◌≢◌, ◌<◌, ◌-◌, ℕ, zero, suc, Bool, true, false, ◌&&◌, ◌||◌, cond, length, List, [], ◌∷◌, ◌++◌, map, Some, refl, sym, ap, ap₂, subst, slice_get}
+use Rattle.std.specs.List.{list_any}
 use Rattle.ecma_kind.specs.declared.kind.Kind.{Kind}
 use Rattle.ecma_kind.specs.declared.kind.Kind.TheVariants as kind
+use Rattle.ecma_kind.specs.declared.shapes.Shape.{Shape}
 use Rattle.ecma_kind.specs.declared.shapes.Sort.TheVariants as sort
 use Rattle.ecma_kind.specs.declared.span.Span.{Span}
-use Rattle.ecma_tree.specs.Finding.{enters_all, finds, finds_from, finds_here}
+use Rattle.ecma_tree.specs.Finding.{enters_all, finds_here}
 use Rattle.ecma_tree.specs.Nodes.{node_of}
-use Rattle.ecma_tree.specs.Sorted.{HasShape, HasSort, allows, is_list, one}
-use Rattle.ecma_tree.specs.declared.node.Node.{Node, Node-F, out-Node}
+use Rattle.ecma_tree.specs.Sorted.{allows, child_shapes, is_list, many, one}
+use Rattle.ecma_tree.specs.declared.node.Node.{Node, Node-F}
 use Rattle.ecma_tree.proofs.Changing.{changed-parts}
 use Rattle.ecma_rules.specs.Children.{kind_of}
-use Rattle.ecma_config.specs.declared.config.Config.{Config}
 use Rattle.ecma_elide.specs.declared.seat.Seat.{Seat}
 use Rattle.ecma_elide.specs.declared.seat.Seat.TheVariants as seat
-use Rattle.ecma_elide.specs.Elision.{elided}
 use Rattle.ecma_elide.specs.Rules.{Known}
-use Rattle.ecma_elide_fits.proofs.Dropped.{and_false, below, each, kind_to, loses_at, seats_at, to as left_of, whole_to}
+use Rattle.ecma_elide_fits.proofs.Dropped.{and_false, below, each, kind_to, loses_at, seats_at, some_same, to as left_of, whole_to}
 use Rattle.ecma_elide_fits.proofs.Elided.{dropping, of_elided}
 use Rattle.ecma_elide_fits.proofs.Rules.{allowed}
+use Rattle.ecma_elide_fits.proofs.Walks.{have_at, shape_parts}
 use Rattle.ecma_elide_sources.proofs.Thin.{clear, empty}
-use Rattle.ecma_fits.specs.Counts.{is_short}
 use Rattle.ecma_fits.specs.Fitting.{Fits, at_top}
 use Rattle.ecma_scope.specs.declared.form.Declaration.{Declaration}
 use Rattle.ecma_scope.specs.declared.role.Role.{Role}
 use Rattle.ecma_scope.specs.declared.role.Role.TheVariants as role
-use Rattle.ecma_scope.specs.Scopes.{covers, is_there, opens, opens_by, role_by, role_in}
+use Rattle.ecma_scope.specs.Scopes.{covers, is_there, opens, opens_by, role_by}
 use Rattle.ecma_scope.specs.Declarations.{keeps}
 use Rattle.ecma_scope.specs.Resolved.{Place, context_count, innermost, inside, kind_at, nowhere, placed, resolved, scope_at, taken}
 use Rattle.ecma_scope.proofs.Unchanged.{changes-contexts}
 use Rattle.ecma_scope_fits.proofs.Contexts.{resolved_fit_alike}
-use Rattle.ecma_scope_fits.proofs.Moved.{blind, children_moved, fold_same, kind_moved, moved, span_moved, to}
-use Rattle.ecma_elide_scopes.specs.Freeing.{freed, freed_by, has_alias, is_alias, module_names}
+use Rattle.ecma_scope_fits.proofs.Moved.{children_moved, fold_same, kind_moved, moved, span_moved, to}
+use Rattle.ecma_elide_scopes.specs.Freeing.{freed, freed_by, has_alias, has_inner_alias, holds_alias, is_alias, module_names}
 use Rattle.ecma_elide_scopes.specs.Laws.{ElidedScopesAreFreed}
 use Rattle.ecma_elide_scopes.proofs.Alike.{Bare, alike, at, below_bare, less_below, place, resolved_out}
 use Rattle.ecma_elide_scopes.proofs.Blind.{names_moved}
@@ -47,6 +47,28 @@ alias_bare span _ cs = refl
 
 alias_cleared : (n : Node) → has_alias (clear n) ≡ has_alias n
 alias_cleared = fold_same empty (finds_here is_alias enters_all) alias_bare
+
+any_cleared : (p : Node → Bool) → ((n : Node) → p (clear n) ≡ p n) → (ns : List Node) → list_any p (map clear ns) ≡ list_any p ns
+any_cleared p same [] = refl
+any_cleared p same (n ∷ ns) = ap₂ (λ a b. a || b) (same n) (any_cleared p same ns)
+
+any_below : (p : Node → Bool) → ((n : Node) → p (clear n) ≡ p n) → (n : Node) → list_any p (below (clear n)) ≡ list_any p (below n)
+any_below p same n = ap (list_any p) (children_moved empty n) ∙ any_cleared p same (below n)
+
+abbrev items_hold : Node → Bool
+items_hold items = list_any holds_alias (below items)
+
+inner_cleared : (n : Node) → has_inner_alias (clear n) ≡ has_inner_alias n
+inner_cleared = any_below items_hold (any_below holds_alias (any_below has_alias alias_cleared))
+
+neither : (a b : Bool) → (a || b) ≡ false → (a ≡ false) × (b ≡ false)
+neither true b h = cc
+neither false b h = (refl, h)
+
+none_of : (p : Node → Bool) (ns : List Node) → list_any p ns ≡ false → (i : ℕ) (c : Node) → slice_get ns i ≡ Some c → p c ≡ false
+none_of p [] h i c at = cc
+none_of p (n ∷ ns) h zero c at = let same : n ≡ c = cc in subst (λ z. p z ≡ false) same (neither (p n) (list_any p ns) h).0
+none_of p (n ∷ ns) h (suc i) c at = none_of p ns (neither (p n) (list_any p ns) h).1 i c at
 
 -- ---- the module
 
@@ -77,6 +99,12 @@ module_allowed : (k : Kind) → allows (one sort.Module) k ≡ true → is_modul
 module_allowed (kind.Module shebang) h = refl
 module_allowed _ h = h
 
+-- its child is a list
+items_list : (k l : Kind) (t : Shape) (n i : ℕ) (u : Shape) → is_module k ≡ true → slice_get (child_shapes k t n) i ≡ Some u → allows u l ≡ true → is_list l ≡ true
+items_list (kind.Module shebang) l t n zero u h at a = subst (λ z. allows z l ≡ true → is_list l ≡ true) (some_same (many sort.ModuleItem) u at) (λ b. b) a
+items_list (kind.Module shebang) l t n (suc i) u h at a = cc
+items_list _ l t n i u h at a = cc
+
 module_list : (k : Kind) → is_module k ≡ true → is_list k ≡ false
 module_list (kind.Module shebang) h = refl
 module_list _ h = cc
@@ -105,7 +133,7 @@ module _ (unresolved top : ℕ) where
       ap (λ m. placed (inside top nowhere x l) 0 (below x) (map (at unresolved top) (below x)) m) (ap (λ t. l - t) (root_taken x) ∙ less_none l)
       ∙ (λ j. placed (λ i. root_inside x l i h j) 0 (below x) (map (at unresolved top) (below x)) l)
 
-  module _ (left : ℕ) (source : Node) (fits : Fits source) (bare : Bare source) (no_alias : has_alias source ≡ false) (less : left < top) (apart : unresolved ≢ top) where
+  module _ (left : ℕ) (source : Node) (fits : Fits source) (bare : Bare source) (no_alias : has_inner_alias source ≡ false) (less : left < top) (apart : unresolved ≢ top) where
     abbrev bound : Node
     bound = resolved unresolved top left source
 
@@ -133,10 +161,19 @@ module _ (unresolved top : ℕ) where
     below_bound : below bound ≡ xs
     below_bound = ap (λ (z : Node-F Node). z.children) (parts_res unresolved top source nowhere left) ∙ root_children source left is_root
 
+    none_inside : has_inner_alias bound ≡ false
+    none_inside = sym (inner_cleared bound) ∙ ap has_inner_alias back ∙ no_alias
+
     sounds : (i : ℕ) (c : Node) → slice_get (below bound) i ≡ Some c → Sound c
-    sounds =
-        child_sound bound (one sort.Module) bound_fits.sorted (λ l. never (is_list (kind_of bound)) l (ap is_list bound_kind ∙ module_list (kind_of source) is_root))
-        (sym (alias_cleared bound) ∙ ap has_alias back ∙ no_alias) at_top bound_fits.counts
+    sounds i c at =
+        child_sound bound (one sort.Module) bound_fits.sorted (λ l. never (is_list (kind_of bound)) l (ap is_list bound_kind ∙ module_list (kind_of source) is_root)) at_top bound_fits.counts i c at
+        (λ j item item_at. none_of has_alias (below item) (none_of holds_alias (below c) (none_of items_hold (below bound) none_inside i c at) j item item_at))
+        (λ l. never (is_list (kind_of c)) listed l)
+      where
+        listed : is_list (kind_of c) ≡ true
+        listed =
+            let u = have_at (child_shapes (kind_of bound) (one sort.Module) (length (below bound))) (below bound) (shape_parts bound (one sort.Module) bound_fits.sorted).1 i c at in
+            items_list (kind_of bound) (kind_of c) (one sort.Module) (length (below bound)) i u.0 (ap is_module bound_kind ∙ is_root) u.1 (allowed u.0 c u.2)
 
     -- a node of this kind whose children are those of the module, some of them with other contexts
     meets : (e : Node) → kind_of e ≡ kind_of source

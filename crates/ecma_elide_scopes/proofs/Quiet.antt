@@ -9,7 +9,7 @@ use Rattle.ecma_kind.specs.declared.shapes.Count.{Count}
 use Rattle.ecma_kind.specs.declared.shapes.Shape.{Shape}
 use Rattle.ecma_kind.specs.declared.shapes.Sort.{Sort}
 use Rattle.ecma_kind.specs.declared.shapes.Sort.TheVariants as sort
-use Rattle.ecma_tree.specs.Finding.{enters_all, finds, finds_from, finds_here}
+use Rattle.ecma_tree.specs.Finding.{enters_all, finds_from, finds_here}
 use Rattle.ecma_tree.specs.Nodes.{node_of}
 use Rattle.ecma_tree.specs.Sorted.{HasShape, allows, child_shapes, is_list, item_shape, one}
 use Rattle.ecma_tree.specs.declared.node.Node.{Node, fold_out-Node, out-Node}
@@ -24,7 +24,7 @@ use Rattle.ecma_elide.specs.declared.seat.Seat.TheVariants as seat
 use Rattle.ecma_elide.specs.Elision.{seat_in}
 use Rattle.ecma_elide.specs.Rules.{Known, alias_goes, goes}
 use Rattle.ecma_elide_fits.specs.Dropping.{Dropping}
-use Rattle.ecma_elide_fits.proofs.Dropped.{Whole, and_false, below, each, induct, loses_at, seats_at, stay, stay_whole, to, to_is}
+use Rattle.ecma_elide_fits.proofs.Dropped.{and_false, below, each, induct, loses_at, seats_at, stay, stay_whole, to, to_is}
 use Rattle.ecma_elide_fits.proofs.Elided.{dropping}
 use Rattle.ecma_elide_fits.proofs.Rules.{allowed}
 use Rattle.ecma_elide_fits.proofs.Shapes.{items_asked}
@@ -127,31 +127,43 @@ alias_parts n h =
     let v = neither (is_alias (kind_of n)) (finds_from (λ k. true) 0 (map has_alias (below n))) (sym (fold_out-Node Bool (finds_here is_alias enters_all) n) ∙ h) in
     (v.0, λ i c at. none_found 0 (below n) i c v.1 at)
 
--- ---- nodes of which all is as a tree that fits has it, and in which no alias stands
+-- in no child of a node, or in no child of those
+abbrev pub Below : Node → Type 0
+Below n = (i : ℕ) (c : Node) → slice_get (below n) i ≡ Some c → has_alias c ≡ false
+
+abbrev pub Deeper : Node → Type 0
+Deeper n = (i : ℕ) (c : Node) → slice_get (below n) i ≡ Some c → Below c
+
+deeper_below : (n : Node) → Below n → Deeper n
+deeper_below n h i c at = (alias_parts c (h i c at)).1
+
+-- ---- nodes of which all is as a tree that fits has it, and inside of which no alias stands
 
 pub record Sound (n : Node) : Type 0 where
   pub shape : Shape
   pub has : HasShape shape n
   pub no_module : NoModule shape
-  pub no_alias : has_alias n ≡ false
   pub around : Where
   pub counts : Passes is_short n around
+  pub deeper : Deeper n
+  pub direct : is_list (kind_of n) ≡ false → Below n
 
-pub child_sound : (n : Node) (t : Shape) → HasShape t n → (is_list (kind_of n) ≡ true → NoModule t) → has_alias n ≡ false → (w : Where) → Passes is_short n w
-    → (i : ℕ) (c : Node) → slice_get (below n) i ≡ Some c → Sound c
-child_sound n t has none alias w counts i c at =
+pub child_sound : (n : Node) (t : Shape) → HasShape t n → (is_list (kind_of n) ≡ true → NoModule t) → (w : Where) → Passes is_short n w
+    → (i : ℕ) (c : Node) → slice_get (below n) i ≡ Some c → Deeper c → (is_list (kind_of c) ≡ false → Below c) → Sound c
+child_sound n t has none w counts i c at deeper direct =
     let u = have_at (child_shapes (kind_of n) t (length (below n))) (below n) (shape_parts n t has).1 i c at in
     record {
       shape = u.0;
       has = u.2;
       no_module = child_none (kind_of n) t (length (below n)) i u.0 none u.1;
-      no_alias = (alias_parts n alias).1 i c at;
       around = where_in w n i;
       counts = passes_below is_short n w counts i c at;
+      deeper = deeper;
+      direct = direct;
     }
 
 pub sound_below : (n : Node) → Sound n → (i : ℕ) (c : Node) → slice_get (below n) i ≡ Some c → Sound c
-sound_below n s = child_sound n s.shape s.has (λ l. s.no_module) s.no_alias s.around s.counts
+sound_below n s i c at = child_sound n s.shape s.has (λ l. s.no_module) s.around s.counts i c at (deeper_below c (s.deeper i c at)) (λ l. s.deeper i c at)
 
 pub sound_kind : (n : Node) → Sound n → is_module (kind_of n) ≡ false
 sound_kind n s = not_module (kind_of n) s.shape s.no_module (allowed s.shape n s.has)
@@ -209,14 +221,14 @@ module _ (known : Known) where
       by false = refl
 
   abbrev Quiet : Node → Type 0
-  Quiet n = Sound n → StaysElsewhere n
+  Quiet n = Sound n → has_alias n ≡ false → StaysElsewhere n
 
   node_quiet : (n : Node) → ((i : ℕ) (c : Node) → slice_get (below n) i ≡ Some c → Quiet c) → Quiet n
-  node_quiet n quiet s loses =
+  node_quiet n quiet s none loses =
       to_is d loses seat.Elsewhere n
       ∙ ap (node_of (out-Node n).span (kind_of n))
-      (ap (each d (loses_at d loses n) (seats_at d seat.Elsewhere n)) (all_stay n loses s.no_alias)
-      ∙ each_stays (below n) (λ i c at. quiet i c at (sound_below n s i c at)) (loses_at d loses n) (seats_at d seat.Elsewhere n) (λ i. elsewhere_in (kind_of n) (is_there (below n) 1) i (sound_kind n s)))
+      (ap (each d (loses_at d loses n) (seats_at d seat.Elsewhere n)) (all_stay n loses none)
+      ∙ each_stays (below n) (λ i c at. quiet i c at (sound_below n s i c at) ((alias_parts n none).1 i c at)) (loses_at d loses n) (seats_at d seat.Elsewhere n) (λ i. elsewhere_in (kind_of n) (is_there (below n) 1) i (sound_kind n s)))
       ∙ roll-out-Node n
 
   quiet : (n : Node) → Quiet n
@@ -228,5 +240,5 @@ module _ (known : Known) where
       to_is d loses s n
       ∙ ap (node_of (out-Node n).span (kind_of n))
       (ap (each d (loses_at d loses n) (seats_at d s n)) (stay_whole d loses s n (and_false loses (is_list (kind_of n)) (spine_list (kind_of n) h)))
-      ∙ each_stays (below n) (λ i c at. quiet c (sound_below n sound i c at)) (loses_at d loses n) (seats_at d s n) (λ i. quiet_in s (kind_of n) (is_there (below n) 1) i (sound_kind n sound) h))
+      ∙ each_stays (below n) (λ i c at. quiet c (sound_below n sound i c at) (sound.direct (spine_list (kind_of n) h) i c at)) (loses_at d loses n) (seats_at d s n) (λ i. quiet_in s (kind_of n) (is_there (below n) 1) i (sound_kind n sound) h))
       ∙ roll-out-Node n

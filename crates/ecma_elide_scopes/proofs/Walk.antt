@@ -12,7 +12,7 @@ use Rattle.ecma_rules.specs.Children.{kind_of}
 use Rattle.ecma_elide.specs.declared.seat.Seat.{Seat}
 use Rattle.ecma_elide.specs.Rules.{Known}
 use Rattle.ecma_elide_fits.specs.Dropping.{Dropping}
-use Rattle.ecma_elide_fits.proofs.Dropped.{Whole, below, below_to, each, induct, kind_to, loses_at, seats_at, stay, stay_whole, to as left_of, to_is, whole_to}
+use Rattle.ecma_elide_fits.proofs.Dropped.{below, below_to, each, induct, kind_to, loses_at, seats_at, to as left_of, whole_to}
 use Rattle.ecma_elide_fits.proofs.Elided.{dropping}
 use Rattle.ecma_elide_sources.proofs.Flat.{gone_flat}
 use Rattle.ecma_elide_sources.proofs.Thin.{clear, empty}
@@ -20,12 +20,11 @@ use Rattle.ecma_elide_sources.proofs.Walking.{passes_here}
 use Rattle.ecma_fits.specs.Counts.{is_short}
 use Rattle.ecma_scope.specs.declared.form.Declaration.{Declaration}
 use Rattle.ecma_scope.specs.declared.role.Role.{Role}
-use Rattle.ecma_scope.specs.declared.role.Role.TheVariants as role
-use Rattle.ecma_scope.specs.Scopes.{covers, is_root, is_there, opens, opens_by, passes_in_list, role_by, role_in}
+use Rattle.ecma_scope.specs.Scopes.{covers, is_root, is_there, opens_by, passes_in_list, role_by, role_in}
 use Rattle.ecma_scope.specs.Declarations.{keeps}
-use Rattle.ecma_scope.specs.Resolved.{Place, Scope, context_count, counted, inside, kind_at, placed, scope_at, taken}
+use Rattle.ecma_scope.specs.Resolved.{Place, context_count, counted, inside, kind_at, placed, scope_at, taken}
 use Rattle.ecma_scope_fits.proofs.Moved.{Blind, children_moved, kind_moved, kind_same, moved, span_moved, to}
-use Rattle.ecma_elide_scopes.proofs.Alike.{Bare, Deep, alike, at, below_bare, free, inside_is, less_below, place, resolved_out}
+use Rattle.ecma_elide_scopes.proofs.Alike.{Bare, alike, at, below_bare, free, inside_is, less_below, place, resolved_out}
 use Rattle.ecma_elide_scopes.proofs.Blind.{count_moved, count_out}
 use Rattle.ecma_elide_scopes.proofs.Quiet.{Sound, is_spine, never, sound_below, still}
 use Rattle.ecma_elide_scopes.proofs.Standing.{exports_fail, is_function_body, list_fails, never_root}

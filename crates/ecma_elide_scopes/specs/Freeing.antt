@@ -1,10 +1,11 @@
 -- A tree with contexts from which declarations of the module went, in which what they declared is free.
 use Rattle.std.specs.Prelude.{ℕ, Bool, true, false, ◌&&◌, ◌==◌, not, List, [], cond}
+use Rattle.std.specs.List.{list_any}
 use Rattle.ecma_kind.specs.declared.kind.Kind.{Kind}
 use Rattle.ecma_kind.specs.declared.kind.Kind.TheVariants as kind
 use Rattle.ecma_tree.specs.Contexts.{with_contexts}
 use Rattle.ecma_tree.specs.Finding.{enters_all, finds}
-use Rattle.ecma_tree.specs.declared.node.Node.{Node}
+use Rattle.ecma_tree.specs.declared.node.Node.{Node, out-Node}
 use Rattle.ecma_scope.specs.declared.form.Declaration.{Declaration}
 use Rattle.ecma_scope.specs.declared.role.Role.TheVariants as role
 use Rattle.ecma_scope.specs.Declarations.{keeps, names}
@@ -27,7 +28,14 @@ abbrev pub is_alias : Kind → Bool
 is_alias (kind.TsImportEqualsDecl is_export is_type_only) = true
 is_alias _ = false
 
--- whether `import a = ..` stands anywhere. Where it goes from a namespace, the scope of that loses a name, and the namespace may be no value any more
---   namespace N { import a = b.c; } N;   // N goes with the alias
 abbrev pub has_alias : Node → Bool
 has_alias tree = finds is_alias enters_all tree
+
+abbrev pub holds_alias : Node → Bool
+holds_alias item = list_any has_alias (out-Node item).children
+
+-- whether `import a = ..` stands inside of an item of a module. Where it goes from a namespace, the scope of that loses a name, and the namespace may be no
+-- value any more
+--   namespace N { import a = b.c; } N;   // N goes with the alias
+abbrev pub has_inner_alias : Node → Bool
+has_inner_alias tree = list_any (λ items. list_any holds_alias (out-Node items).children) (out-Node tree).children

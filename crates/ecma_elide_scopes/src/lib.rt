@@ -6,7 +6,7 @@
 ghost use Rattle.ecma_elide_scopes.specs.Laws.{ElidedScopesAreFreed};
 
 /// What is left of a module with its contexts has the contexts of the module without what goes, once the names that only dropped imports declared are
-/// free, where no `import a = ..` stands in it.
+/// free, where no `import a = ..` stands in its namespaces.
 pub fn elided_scopes_are_freed()
     ensures { ElidedScopesAreFreed }
 {}
