@@ -76,10 +76,10 @@ module _ (f : List ℕ → ℕ → ℕ) where
 
   -- values
 
-  value_sourced : (stays : Bool) (k : Kind) (cs : List Node) → value_where_by stays (moved f k) cs ≡ value_where_by stays k cs
+  value_blind : (stays : Bool) (k : Kind) (cs : List Node) → value_where_by stays (moved f k) cs ≡ value_where_by stays k cs
   unfolding value_by
-  value_sourced stays (kind.Ident text ctxt optional) cs = refl
-  value_sourced stays _ cs = refl
+  value_blind stays (kind.Ident text ctxt optional) cs = refl
+  value_blind stays _ cs = refl
 
   abbrev ValuesSame : List Node → Type 0
   ValuesSame nodes = (stays : Bool) → map (is_value_where stays) (map cleared nodes) ≡ map (is_value_where stays) nodes
@@ -95,7 +95,7 @@ module _ (f : List ℕ → ℕ → ℕ) where
   node_value n same stays =
       is_value_where-out stays (cleared n)
       ∙ ap₂ (value_where_by stays) (kind_moved f n) (children_moved f n)
-      ∙ value_sourced stays (kind_of n) (map cleared (children_of n))
+      ∙ value_blind stays (kind_of n) (map cleared (children_of n))
       ∙ ap (λ (values : List Bool). (is_function (kind_of n) && not stays) || value_by (kind_of n) values) (same (not (holds_ambient (kind_of n)) && stays))
       ∙ sym (is_value_where-out stays n)
 
