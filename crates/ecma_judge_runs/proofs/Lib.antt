@@ -11,6 +11,7 @@ pub mod Giving
 pub mod Values
 pub mod Sums
 pub mod Arithmetic
+pub mod Quotients
 pub mod Differences
 pub mod Literals
 pub mod Operators

@@ -31,7 +31,7 @@ use Rattle.ecma_runs.specs.Operators.{unary_value}
 use Rattle.ecma_runs.specs.Expressions.{binary_rest}
 use Rattle.ecma_runs.proofs.Layer.{meaning-roll}
 use Rattle.ecma_judge_runs.specs.Taken.{is_taken, is_taken_by}
-use Rattle.ecma_judge_runs.specs.Known.{HasTruth, Marks, marks, is_told_of, is_spoken_of, is_no_difference, is_valued, is_valued_by, is_steady, is_steady_by, declares_no_global}
+use Rattle.ecma_judge_runs.specs.Known.{HasTruth, Marks, marks, is_told_of, is_no_difference, is_valued, is_valued_by, is_steady, is_steady_by, declares_no_global}
 use Rattle.ecma_judge_runs.proofs.Leaving.{Follows, LeavesBy, Leaves, bind_by, bind_leaves, give_leaves, outside_leaves, given_leaves}
 use Rattle.ecma_judge_runs.proofs.Giving.{Gave, GivesBy, weaker_gives}
 use Rattle.ecma_judge_runs.proofs.Literals.{apart_from}
@@ -199,9 +199,8 @@ module _ (ctx : ExprCtx) (off : ctx.is_unresolved_ref_safe ≡ false) (x : Execu
   layer_steady n (kind.UnaryExpr op) (e ∷ []) t v d old quiet is = unary_steady op n e (both_true (is_taken ctx x.known.declared e.0) true t).0 v d old quiet is
   layer_steady n (kind.BinExpr op) (l ∷ r ∷ []) t v d old quiet is =
       let a = both_true (is_taken ctx x.known.declared l.0) (is_taken ctx x.known.declared r.0 && true) t in
-      let b = both_true (is_spoken_of op) (is_valued l.0 && is_valued r.0) v in
       let c = both_true (is_no_difference op) (is_steady l.0 && is_steady r.0) d in
-      binary_steady op n l r (a.0, (both_true (is_taken ctx x.known.declared r.0) true a.1).0) (both_true (is_valued l.0) (is_valued r.0) b.1) (both_true (is_steady l.0) (is_steady r.0) c.1) c.0 old quiet is
+      binary_steady op n l r (a.0, (both_true (is_taken ctx x.known.declared r.0) true a.1).0) (both_true (is_valued l.0) (is_valued r.0) v) (both_true (is_steady l.0) (is_steady r.0) c.1) c.0 old quiet is
   layer_steady n kind.ParenExpr ns t v d old quiet is = outside_leaves old
   layer_steady n (kind.UnaryExpr op) ns t v d old quiet is = outside_leaves old
   layer_steady n (kind.BinExpr op) ns t v d old quiet is = outside_leaves old

@@ -24,7 +24,7 @@ use Rattle.ecma_runs.specs.Operators.{number_from, updated}
 use Rattle.ecma_runs.specs.Meaning.{ExecutionContext, inside, Meaning}
 use Rattle.ecma_runs.specs.Evaluation.{meaning}
 use Rattle.ecma_runs.specs.Expressions.{sequence, interleaved, value_of}
-use Rattle.ecma_judge_runs.specs.Known.{HasTruth, HasNumber, HasType, IsAsJudged, Marks, marks, is_valued, is_valued_by, is_spoken_of, last_or, declares_no_global}
+use Rattle.ecma_judge_runs.specs.Known.{HasTruth, HasNumber, HasType, IsAsJudged, Marks, marks, is_valued, is_valued_by, last_or, declares_no_global}
 use Rattle.ecma_judge_runs.proofs.Giving.{GivesBy, CameFrom, then_gives, any_gives, weaker_gives, give_gives, outside_gives, when_gives}
 use Rattle.ecma_judge_runs.proofs.Meanings.{both_true}
 use Rattle.ecma_judge_runs.proofs.Values.{bool_has_number, array_has_number, own_has_text, bool_has_text, common_left, common_right, some_same}
@@ -102,9 +102,8 @@ module _ (ctx : ExprCtx) (x : ExecutionContext) (apart : declares_no_global ctx 
       then_gives ((meaning operand.0).reference x) (λ r. then_gives (read x r) (λ v. then_gives (given (number_from v)) (λ old. then_gives (given (updated op old)) (λ new.
       then_gives (write x r (Number new)) (λ _. give_gives (Number (cond prefix new old)) (record { truth = tt; number = tt; text = tt; type = refl }))))))
   value_gives n (kind.BinExpr op) (left ∷ right ∷ []) shape is =
-      let t = both_true (is_spoken_of op) (is_valued left.0 && is_valued right.0) is in
-      let u = both_true (is_valued left.0) (is_valued right.0) t.1 in
-      binary_gives ctx own n x (judged ctx left.0) (judged ctx right.0) (meaning left.0) (meaning right.0) (left.1.value u.0) (right.1.value u.1) op t.0
+      let u = both_true (is_valued left.0) (is_valued right.0) is in
+      binary_gives ctx own n x (judged ctx left.0) (judged ctx right.0) (meaning left.0) (meaning right.0) (left.1.value u.0) (right.1.value u.1) op
       (λ p v h. filled_text ctx left.0 (passes_first is_filled n left.0 (right.0 ∷ []) shape p) v h) (λ p v h. filled_text ctx right.0 (passes_second is_filled n left.0 right.0 [] shape p) v h)
   value_gives n (kind.AssignExpr op) (target ∷ right ∷ []) shape is =
       let t = both_true (marks target.0).assignable (is_valued right.0) is in

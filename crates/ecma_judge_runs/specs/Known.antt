@@ -67,18 +67,13 @@ is_told_of operator.TypeOf operand = true
 is_told_of operator.Delete operand = true
 is_told_of op operand = operand
 
--- but for `/`, whose arithmetic these laws leave out
-abbrev pub is_spoken_of : BinaryOp → Bool
-is_spoken_of binary.Div = false
-is_spoken_of op = true
-
 -- what is known of a node
 pub record Marks : Type 0 where
   -- what is judged of it is told from what these laws speak of
   pub valued : Bool
   -- as a target it has no default
   pub assignable : Bool
-  -- nor is a difference among what its truth is told from
+  -- nor is a difference or a quotient among what its truth is told from
   pub steady : Bool
 
 -- the last of several, if there is one
@@ -93,7 +88,7 @@ is_valued_by kind.MemberExpr children = false
 is_valued_by (kind.AssignExpr op) (target ∷ right ∷ rest) = target.assignable && right.valued
 is_valued_by kind.ParenExpr (e ∷ rest) = e.valued
 is_valued_by (kind.UnaryExpr op) (operand ∷ rest) = is_told_of op operand.valued
-is_valued_by (kind.BinExpr op) (left ∷ right ∷ rest) = is_spoken_of op && (left.valued && right.valued)
+is_valued_by (kind.BinExpr op) (left ∷ right ∷ rest) = left.valued && right.valued
 is_valued_by kind.CondExpr (test ∷ yes' ∷ no' ∷ rest) = yes'.valued && no'.valued
 is_valued_by kind.SeqExpr children = last_or true children
 is_valued_by k children = true
@@ -129,11 +124,11 @@ marks_step parts = marks_by parts.kind parts.children
 abbrev pub marks : Node → Marks
 marks = fold-Node Marks marks_step
 
--- what is known of it is told from no construction, member and quotient, and no target of an assignment has a default
+-- what is known of it is told from no construction and no member, and no target of an assignment has a default
 abbrev pub is_valued : Node → Bool
 is_valued n = (marks n).valued
 
--- and its truth is told from no difference
+-- and its truth is told from no difference and no quotient
 abbrev pub is_steady : Node → Bool
 is_steady n = (marks n).steady
 

@@ -24,13 +24,13 @@ pub fn calls_of_pure_callees_are_still()
 {}
 
 /// A value that an expression gives is as the expression is judged. Asked is that no scope around declares a name with the context of what is not resolved, that
-/// no target of an assignment has a default, and that what is known is told from no construction, member or quotient.
+/// no target of an assignment has a default, and that what is known is told from no construction and no member.
 pub fn what_is_known_is_so()
     ensures { WhatIsKnownIsSo }
 {}
 
 /// Where the purity of an expression's truth is that of what is pure, the evaluation changes nothing, even where an operand that is left out has effects, as in
-/// `true || f()`. Asked is what the two laws on effects and on values ask, and that its truth is told from no difference.
+/// `true || f()`. Asked is what the two laws on effects and on values ask, and that its truth is told from no difference and no quotient.
 pub fn what_is_pure_is_still()
     ensures { WhatIsPureIsStill }
 {}
