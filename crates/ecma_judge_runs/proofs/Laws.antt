@@ -4,7 +4,7 @@ use Rattle.ecma_runs.specs.State.{State}
 use Rattle.ecma_runs.specs.Laws.{state_behind}
 use Rattle.ecma_runs.specs.Evaluation.{meaning}
 use Rattle.ecma_judge_runs.specs.Still.{Still}
-use Rattle.ecma_judge_runs.specs.Laws.{WhatHasNoEffectsIsStill, ClassesWithoutEffectsAreStill, CallsOfPureCalleesAreStill, WhatIsKnownIsSo, WhatIsPureIsStill}
+use Rattle.ecma_judge_runs.specs.Laws.{WhatHasNoEffectsIsStill, ClassesWithoutEffectsAreStill, CallsOfPureCalleesAreStill, WhatIsKnownIsSo, WhatIsPureIsStill, WhatIsAPureNumberIsStill, WhatHasAKnownTextIsStill}
 use Rattle.ecma_judge_runs.proofs.Fronts.{still_itself}
 use Rattle.ecma_judge_runs.proofs.Leaving.{Leaves, behind}
 use Rattle.ecma_judge_runs.proofs.Nodes.{claim}
@@ -34,7 +34,13 @@ pub what_is_known_is_so : WhatIsKnownIsSo
 what_is_known_is_so ctx e x s t v apart told done = gave_done (IsAsJudged (judged ctx e)) ((meaning e).value x s) v t done (((valued ctx x apart e).value told).at s)
 
 pub what_is_pure_is_still : WhatIsPureIsStill
-what_is_pure_is_still ctx e x s off apart taken told calm pure = still_behind ((meaning e).value x) s ((steady ctx off x apart e).at taken told calm pure s)
+what_is_pure_is_still ctx e x s off apart taken pure = still_behind ((meaning e).value x) s (((steady ctx off x apart e).truth taken pure).leaves s)
+
+pub what_is_a_pure_number_is_still : WhatIsAPureNumberIsStill
+what_is_a_pure_number_is_still ctx e x s off apart taken pure = still_behind ((meaning e).value x) s (((steady ctx off x apart e).number taken pure).leaves s)
+
+pub what_has_a_known_text_is_still : WhatHasAKnownTextIsStill
+what_has_a_known_text_is_still ctx e x text s off apart taken known = still_behind ((meaning e).value x) s ((steady ctx off x apart e).text taken text known s).0
 
 pub calls_of_pure_callees_are_still : CallsOfPureCalleesAreStill
 calls_of_pure_callees_are_still ctx e x arguments s apart other pure =

@@ -18,6 +18,8 @@ pub mod Operators
 pub mod Assignments
 pub mod Valuing
 pub mod ValuedNodes
+pub mod Idle
+pub mod Purities
 pub mod Steady
 pub mod Callees
 pub mod Laws

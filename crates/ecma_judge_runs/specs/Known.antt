@@ -8,8 +8,6 @@ use Rattle.ecma_number.specs.declared.value.Value.{Value as KnownOr}
 use Rattle.ecma_number.specs.declared.value.Value.TheVariants.{Known, Unknown}
 use Rattle.ecma_kind.specs.declared.kind.Kind.{Kind}
 use Rattle.ecma_kind.specs.declared.kind.Kind.TheVariants as kind
-use Rattle.ecma_kind.specs.declared.operators.BinaryOp.{BinaryOp}
-use Rattle.ecma_kind.specs.declared.operators.BinaryOp.TheVariants as binary
 use Rattle.ecma_kind.specs.declared.operators.UnaryOp.{UnaryOp}
 use Rattle.ecma_kind.specs.declared.operators.UnaryOp.TheVariants as operator
 use Rattle.ecma_tree.specs.declared.node.Node.{Node, Node-F, fold-Node}
@@ -73,8 +71,6 @@ pub record Marks : Type 0 where
   pub valued : Bool
   -- as a target it has no default
   pub assignable : Bool
-  -- nor is a difference or a quotient among what its truth is told from
-  pub steady : Bool
 
 -- the last of several, if there is one
 abbrev pub last_or : Bool → List Marks → Bool
@@ -104,19 +100,8 @@ is_assignable_by kind.TsInstantiation (e ∷ rest) = e.assignable
 is_assignable_by kind.TsSatisfiesExpr (e ∷ rest) = e.assignable
 is_assignable_by k children = true
 
-abbrev pub is_no_difference : BinaryOp → Bool
-is_no_difference binary.Sub = false
-is_no_difference binary.Div = false
-is_no_difference op = true
-
-abbrev pub is_steady_by : Kind → List Marks → Bool
-is_steady_by kind.ParenExpr (e ∷ rest) = e.steady
-is_steady_by (kind.UnaryExpr op) (operand ∷ rest) = operand.steady
-is_steady_by (kind.BinExpr op) (left ∷ right ∷ rest) = is_no_difference op && (left.steady && right.steady)
-is_steady_by k children = true
-
 abbrev pub marks_by : Kind → List Marks → Marks
-marks_by k children = record { valued = is_valued_by k children; assignable = is_assignable_by k children; steady = is_steady_by k children }
+marks_by k children = record { valued = is_valued_by k children; assignable = is_assignable_by k children }
 
 abbrev pub marks_step : Node-F Marks → Marks
 marks_step parts = marks_by parts.kind parts.children
@@ -127,10 +112,6 @@ marks = fold-Node Marks marks_step
 -- what is known of it is told from no construction and no member, and no target of an assignment has a default
 abbrev pub is_valued : Node → Bool
 is_valued n = (marks n).valued
-
--- and its truth is told from no difference and no quotient
-abbrev pub is_steady : Node → Bool
-is_steady n = (marks n).steady
 
 -- no scope around declares a name with the context of what is not resolved
 abbrev pub declares_no_global : ExprCtx → List Entered → Bool

@@ -3,7 +3,7 @@
 //! Each function carries one law, and does nothing. The laws are stated in `specs/Laws.antt`.
 #![tactic(auto)]
 
-ghost use Rattle.ecma_judge_runs.specs.Laws.{CallsOfPureCalleesAreStill, ClassesWithoutEffectsAreStill, WhatHasNoEffectsIsStill, WhatIsKnownIsSo, WhatIsPureIsStill};
+ghost use Rattle.ecma_judge_runs.specs.Laws.{CallsOfPureCalleesAreStill, ClassesWithoutEffectsAreStill, WhatHasAKnownTextIsStill, WhatHasNoEffectsIsStill, WhatIsAPureNumberIsStill, WhatIsKnownIsSo, WhatIsPureIsStill};
 
 /// An expression that is said to have no effects changes nothing when it is evaluated: no variable, no object, and nothing that the host sees; however it comes
 /// out. It may make objects and environment records. Asked is that its names are told, and that it has no member, call or optional chain outside of functions.
@@ -30,7 +30,17 @@ pub fn what_is_known_is_so()
 {}
 
 /// Where the purity of an expression's truth is that of what is pure, the evaluation changes nothing, even where an operand that is left out has effects, as in
-/// `true || f()`. Asked is what the two laws on effects and on values ask, and that its truth is told from no difference and no quotient.
+/// `true || f()`. Asked is what the law on effects asks, and that no scope around declares a name with the context of what is not resolved.
 pub fn what_is_pure_is_still()
     ensures { WhatIsPureIsStill }
+{}
+
+/// So it is where the purity of its Number is that of what is pure, as of `[!(true || f())]`.
+pub fn what_is_a_pure_number_is_still()
+    ensures { WhatIsAPureNumberIsStill }
+{}
+
+/// And where its text is known.
+pub fn what_has_a_known_text_is_still()
+    ensures { WhatHasAKnownTextIsStill }
 {}
