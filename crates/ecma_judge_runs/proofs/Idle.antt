@@ -23,13 +23,9 @@ two_true true b p q = q
 two_true false b p q = absurd (cc)
 
 told_true : (op : UnaryOp) (b : Bool) → b ≡ true → is_told_of op b ≡ true
-told_true operator.TypeOf b is = refl
-told_true operator.Delete b is = refl
 told_true operator.Minus b is = is
-told_true operator.Plus b is = is
 told_true operator.Bang b is = is
-told_true operator.Tilde b is = is
-told_true operator.Void b is = is
+told_true op b is = refl
 
 module _ (ctx : ExprCtx) (x : ExecutionContext) where
   record Idle (n : Node) : Type 0 where
@@ -70,7 +66,6 @@ module _ (ctx : ExprCtx) (x : ExecutionContext) where
   layer_valued : (n : Node) (k : Kind) (ns : List IdleNode) → (not (pure_callee_by ctx k n) && effects_by ctx k n (judgements ns)) ≡ false → is_taken_by ctx x.known.declared k (takens ns) ≡ true → is_valued_by k (all_marks ns) ≡ true
   unfolding effects_by access_effects_by part_effects_by pure_callee_by
   layer_valued n kind.NewExpr ns none taken = absurd (cc)
-  layer_valued n kind.MemberExpr ns none taken = absurd (cc)
   layer_valued n (kind.AssignExpr op) ns none taken = absurd (cc)
   layer_valued n kind.ParenExpr (e ∷ ns) none taken = first_valued e ns none taken
   layer_valued n (kind.UnaryExpr op) (e ∷ ns) none taken = told_true op (is_valued e.0) (first_valued e ns (neither_true (is_delete op) (judged ctx e.0).effects none).1 taken)

@@ -16,6 +16,7 @@ pub mod Differences
 pub mod Literals
 pub mod Operators
 pub mod Assignments
+pub mod Lengths
 pub mod Valuing
 pub mod ValuedNodes
 pub mod Idle

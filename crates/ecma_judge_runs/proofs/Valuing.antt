@@ -1,7 +1,9 @@
 -- The values that expressions give are as they are judged: a line for each kind.
-use Rattle.std.proofs.Common.{◌≡◌, refl, sym, ap, subst, ℕ, suc, arith, ◌-◌, length, List, [], ◌∷◌, map, None, Bool, true, false, cond, ◌&&◌, ◌==◌, bytes_eq, codes, slice_get}
+use Rattle.std.proofs.Common.{◌≡◌, refl, sym, ap, subst, ℕ, suc, arith, ◌-◌, length, List, [], ◌∷◌, map, None, Bool, true, false, cond, ◌&&◌, ◌==◌, bytes_eq, codes, if◌then◌else◌, slice_get}
 use Rattle.std.specs.Option.{option_map_or}
+use Rattle.ecma_number.specs.declared.types.JsType.TheVariants as js_type
 use Rattle.ecma_number.specs.declared.types.Purity.{Purity}
+use Rattle.ecma_number.specs.declared.value.Value.TheVariants.{Known, Unknown}
 use Rattle.ecma_kind.specs.declared.kind.Kind.{Kind}
 use Rattle.ecma_kind.specs.declared.kind.Kind.TheVariants as kind
 use Rattle.ecma_tree.specs.declared.node.Node.{Node, out-Node}
@@ -9,21 +11,21 @@ use Rattle.ecma_judge.specs.declared.ctx.ExprCtx.{ExprCtx}
 use Rattle.ecma_judge.specs.Judged.{judged}
 use Rattle.ecma_judge.specs.Judgement.{Judged, kid}
 use Rattle.ecma_judge.specs.Numbers.{number_by, is_infinity}
-use Rattle.ecma_judge.specs.Parts.{passes_at}
+use Rattle.ecma_judge.specs.Parts.{has_kind, passes_at}
 use Rattle.ecma_judge.specs.Texts.{text_by}
 use Rattle.ecma_judge.specs.Truths.{truth_by, is_filled}
-use Rattle.ecma_judge.specs.Types.{type_by}
+use Rattle.ecma_judge.specs.Types.{is_length, has_length, type_by}
 use Rattle.ecma_judge.specs.Values.{last_index}
 use Rattle.ecma_runs.specs.Values.{Value, Null, Truth, Number, Text, Own, truth_of}
 use Rattle.ecma_runs.specs.State.{Id, Plain, Ordinary}
-use Rattle.ecma_runs.specs.Run.{Run, given}
+use Rattle.ecma_runs.specs.Run.{Run, ◌>>=◌, given}
 use Rattle.ecma_runs.specs.Environment.{empty, new_environment, set_all}
 use Rattle.ecma_runs.specs.Objects.{new_object, new_array}
 use Rattle.ecma_runs.specs.Functions.{read, write}
 use Rattle.ecma_runs.specs.Operators.{number_from, updated}
 use Rattle.ecma_runs.specs.Meaning.{ExecutionContext, inside, Meaning}
 use Rattle.ecma_runs.specs.Evaluation.{meaning}
-use Rattle.ecma_runs.specs.Expressions.{sequence, interleaved, value_of}
+use Rattle.ecma_runs.specs.Expressions.{sequence, interleaved, member_reference, value_of}
 use Rattle.ecma_judge_runs.specs.Known.{HasTruth, HasNumber, HasType, IsAsJudged, Marks, marks, is_valued, is_valued_by, last_or, declares_no_global}
 use Rattle.ecma_judge_runs.proofs.Giving.{GivesBy, CameFrom, then_gives, any_gives, weaker_gives, give_gives, outside_gives, when_gives}
 use Rattle.ecma_judge_runs.proofs.Meanings.{both_true}
@@ -31,6 +33,7 @@ use Rattle.ecma_judge_runs.proofs.Values.{bool_has_number, array_has_number, own
 use Rattle.ecma_judge_runs.proofs.Literals.{Fits, text_fits, number_fits, name_by}
 use Rattle.ecma_judge_runs.proofs.Operators.{filled_text, infinity_number, unary_gives, binary_gives}
 use Rattle.ecma_judge_runs.proofs.Assignments.{assign_gives}
+use Rattle.ecma_judge_runs.proofs.Lengths.{length_gives}
 
 module _ (ctx : ExprCtx) (x : ExecutionContext) where
   pub record Valued (n : Node) : Type 0 where
@@ -69,6 +72,14 @@ module _ (ctx : ExprCtx) (x : ExecutionContext) (apart : declares_no_global ctx 
 
   passes_second : (test : Node → Bool) (n : Node) (a b : Node) (cs : List Node) → (out-Node n).children ≡ a ∷ b ∷ cs → passes_at test 1 n ≡ true → test b ≡ true
   passes_second test n a b cs is h = subst (λ (z : List Node). option_map_or test (slice_get z 1) false ≡ true) is h
+
+  -- a member that is told to be a length is a Number
+  length_by : (n object key : Node) → (out-Node n).children ≡ object ∷ key ∷ [] → (b : Bool) → (passes_at (has_kind has_length) 0 n && passes_at (has_kind is_length) 1 n) ≡ b
+      → GivesBy (HasType (if b then Known js_type.Num else Unknown)) (member_reference (meaning object) (meaning key) x >>= λ r. read x r)
+  length_by n object key shape true e =
+      let t = both_true (passes_at (has_kind has_length) 0 n) (passes_at (has_kind is_length) 1 n) e in
+      length_gives x object key (passes_first (has_kind has_length) n object (key ∷ []) shape t.0) (passes_second (has_kind is_length) n object key [] shape t.1)
+  length_by n object key shape false e = any_gives (λ v. tt)
 
   pub value_gives : (n : Node) (k : Kind) (ns : List (ValuedNode ctx x)) → (out-Node n).children ≡ nodes ctx x ns → is_valued_by k (all_marks ctx x ns) ≡ true
       → GivesBy (Fits ctx own n k (judgements ctx x ns)) (value_of n k (meanings ctx x ns) x)
@@ -123,7 +134,9 @@ module _ (ctx : ExprCtx) (x : ExecutionContext) (apart : declares_no_global ctx 
       })
       (sequence_gives ctx x ns is)
   value_gives n kind.NewExpr ns shape is = absurd (cc)
-  value_gives n kind.MemberExpr ns shape is = absurd (cc)
+  value_gives n kind.MemberExpr (object ∷ key ∷ []) shape is =
+      weaker_gives (λ v h. record { truth = tt; number = tt; text = tt; type = h })
+      (length_by n object.0 key.0 shape (passes_at (has_kind has_length) 0 n && passes_at (has_kind is_length) 1 n) refl)
   value_gives n kind.ThisExpr ns shape is = any_gives (λ v. record { truth = tt; number = tt; text = tt; type = tt })
   value_gives n (kind.ArrowExpr is_async is_generator) ns shape is = any_gives (λ v. record { truth = tt; number = tt; text = tt; type = tt })
   value_gives n kind.SuperPropExpr ns shape is = any_gives (λ v. record { truth = tt; number = tt; text = tt; type = tt })

@@ -59,11 +59,11 @@ pub record IsAsJudged (j : Judged) (v : Value) : Type 0 where
 
 -- ---- of expressions
 
--- but for `typeof` and `delete`, of which the same is told whatever the operand is
+-- but for `-` and `!` the same is told whatever the operand is
 abbrev pub is_told_of : UnaryOp → Bool → Bool
-is_told_of operator.TypeOf operand = true
-is_told_of operator.Delete operand = true
-is_told_of op operand = operand
+is_told_of operator.Minus operand = operand
+is_told_of operator.Bang operand = operand
+is_told_of op operand = true
 
 -- what is known of a node
 pub record Marks : Type 0 where
@@ -77,10 +77,9 @@ abbrev pub last_or : Bool → List Marks → Bool
 last_or b [] = b
 last_or b (m ∷ ms) = last_or m.valued ms
 
--- by what its children are, of those from which something is told: no construction and no member
+-- by what its children are, of those from which something is told: no construction
 abbrev pub is_valued_by : Kind → List Marks → Bool
 is_valued_by kind.NewExpr children = false
-is_valued_by kind.MemberExpr children = false
 is_valued_by (kind.AssignExpr op) (target ∷ right ∷ rest) = target.assignable && right.valued
 is_valued_by kind.ParenExpr (e ∷ rest) = e.valued
 is_valued_by (kind.UnaryExpr op) (operand ∷ rest) = is_told_of op operand.valued
@@ -109,7 +108,7 @@ marks_step parts = marks_by parts.kind parts.children
 abbrev pub marks : Node → Marks
 marks = fold-Node Marks marks_step
 
--- what is known of it is told from no construction and no member, and no target of an assignment has a default
+-- what is known of it is told from no construction, and no target of an assignment has a default
 abbrev pub is_valued : Node → Bool
 is_valued n = (marks n).valued
 
