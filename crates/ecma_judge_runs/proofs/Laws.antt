@@ -31,7 +31,7 @@ pub classes_without_effects_are_still : ClassesWithoutEffectsAreStill
 classes_without_effects_are_still ctx class names x s off taken none = still_behind ((meaning class).class_made names x) s (((claim ctx off x class).quiet none taken).class_made names s x.scope)
 
 pub what_is_known_is_so : WhatIsKnownIsSo
-what_is_known_is_so ctx e x s t v apart told done = gave_done (IsAsJudged (judged ctx e)) ((meaning e).value x s) v t done (((valued ctx x apart e).value told).at s)
+what_is_known_is_so ctx objects e x s t v known apart told done = gave_done (IsAsJudged (judged ctx e)) ((meaning e).value x s) v t done (((valued ctx objects x known apart e).value told).at s)
 
 pub what_is_pure_is_still : WhatIsPureIsStill
 what_is_pure_is_still ctx e x s off apart taken pure = still_behind ((meaning e).value x) s (((steady ctx off x apart e).truth taken pure).leaves s)

@@ -17,6 +17,7 @@ pub mod Literals
 pub mod Operators
 pub mod Assignments
 pub mod Lengths
+pub mod Constructions
 pub mod Valuing
 pub mod ValuedNodes
 pub mod Idle

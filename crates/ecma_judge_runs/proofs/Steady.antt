@@ -434,7 +434,7 @@ module _ (ctx : ExprCtx) (off : ctx.is_unresolved_ref_safe ≡ false) (x : Execu
           leaves = λ old. subst (λ m. Leaves old (m.value x)) same_meaning (c.value old x.scope);
           elements = λ old. subst (λ m. Leaves old (m.elements x)) same_meaning (c.elements old x.scope);
           gives = subst (λ m. GivesBy (Fits ctx own here parts.kind (judgements ctx x ns)) (m.value x)) same_meaning
-              (weaker_gives fits_here ((valued ctx x apart here).value (idle_valued ctx x here taken e)));
+              (weaker_gives fits_here ((valued ctx false x (λ is. absurd (cc)) apart here).value (idle_valued ctx false x here taken e)));
         }
 
     told_here : (P Q : Value → Type 0) → ((v : Value) → P v → Q v) → Told ctx x P ((meant ctx x here parts.kind ns).value x) → Told ctx x Q ((meaning here).value x)

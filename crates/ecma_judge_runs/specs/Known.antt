@@ -14,7 +14,9 @@ use Rattle.ecma_tree.specs.declared.node.Node.{Node, Node-F, fold-Node}
 use Rattle.ecma_judge.specs.declared.ctx.ExprCtx.{ExprCtx}
 use Rattle.ecma_judge.specs.Judgement.{Judged}
 use Rattle.ecma_runs.specs.Values.{Value, Undefined, Null, Truth, Number, Text, Own, Host, Error, truth_of}
-use Rattle.ecma_runs.specs.State.{Id, Entered}
+use Rattle.ecma_runs.specs.State.{Id, Entered, State}
+use Rattle.ecma_runs.specs.Run.{Done}
+use Rattle.ecma_runs.specs.Meaning.{AsConstruct, ExecutionContext}
 use Rattle.ecma_runs.specs.Operators.{number_from, text_from}
 
 -- ---- of a value
@@ -77,16 +79,16 @@ abbrev pub last_or : Bool → List Marks → Bool
 last_or b [] = b
 last_or b (m ∷ ms) = last_or m.valued ms
 
--- by what its children are, of those from which something is told: no construction
-abbrev pub is_valued_by : Kind → List Marks → Bool
-is_valued_by kind.NewExpr children = false
-is_valued_by (kind.AssignExpr op) (target ∷ right ∷ rest) = target.assignable && right.valued
-is_valued_by kind.ParenExpr (e ∷ rest) = e.valued
-is_valued_by (kind.UnaryExpr op) (operand ∷ rest) = is_told_of op operand.valued
-is_valued_by (kind.BinExpr op) (left ∷ right ∷ rest) = left.valued && right.valued
-is_valued_by kind.CondExpr (test ∷ yes' ∷ no' ∷ rest) = yes'.valued && no'.valued
-is_valued_by kind.SeqExpr children = last_or true children
-is_valued_by k children = true
+-- by what its children are, of those from which something is told; `objects` says whether constructions are known to give objects
+abbrev pub is_valued_by : Bool → Kind → List Marks → Bool
+is_valued_by objects kind.NewExpr children = objects
+is_valued_by objects (kind.AssignExpr op) (target ∷ right ∷ rest) = target.assignable && right.valued
+is_valued_by objects kind.ParenExpr (e ∷ rest) = e.valued
+is_valued_by objects (kind.UnaryExpr op) (operand ∷ rest) = is_told_of op operand.valued
+is_valued_by objects (kind.BinExpr op) (left ∷ right ∷ rest) = left.valued && right.valued
+is_valued_by objects kind.CondExpr (test ∷ yes' ∷ no' ∷ rest) = yes'.valued && no'.valued
+is_valued_by objects kind.SeqExpr children = last_or true children
+is_valued_by objects k children = true
 
 abbrev pub is_assignable_by : Kind → List Marks → Bool
 is_assignable_by kind.AssignPat children = false
@@ -99,18 +101,23 @@ is_assignable_by kind.TsInstantiation (e ∷ rest) = e.assignable
 is_assignable_by kind.TsSatisfiesExpr (e ∷ rest) = e.assignable
 is_assignable_by k children = true
 
-abbrev pub marks_by : Kind → List Marks → Marks
-marks_by k children = record { valued = is_valued_by k children; assignable = is_assignable_by k children }
+abbrev pub marks_by : Bool → Kind → List Marks → Marks
+marks_by objects k children = record { valued = is_valued_by objects k children; assignable = is_assignable_by k children }
 
-abbrev pub marks_step : Node-F Marks → Marks
-marks_step parts = marks_by parts.kind parts.children
+abbrev pub marks_step : Bool → Node-F Marks → Marks
+marks_step objects parts = marks_by objects parts.kind parts.children
 
-abbrev pub marks : Node → Marks
-marks = fold-Node Marks marks_step
+abbrev pub marks : Bool → Node → Marks
+marks objects = fold-Node Marks (marks_step objects)
 
--- what is known of it is told from no construction, and no target of an assignment has a default
-abbrev pub is_valued : Node → Bool
-is_valued n = (marks n).valued
+-- what is known of it is told from no construction, unless these are known to give objects, and no target of an assignment has a default
+abbrev pub is_valued : Bool → Node → Bool
+is_valued objects n = (marks objects n).valued
+
+-- what constructions give in a context are objects
+abbrev pub ConstructsObjects : ExecutionContext → Type 0
+ConstructsObjects x =
+    (place new_target : ℕ) (arguments : List Value) (s t : State) (v : Value) → x.functions.invoke place (AsConstruct new_target) arguments s ≡ Done v t → is_of_type js_type.Obj v ≡ true
 
 -- no scope around declares a name with the context of what is not resolved
 abbrev pub declares_no_global : ExprCtx → List Entered → Bool

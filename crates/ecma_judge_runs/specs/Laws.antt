@@ -1,5 +1,5 @@
 -- What is judged of expressions is so when they run.
-use Rattle.std.specs.Prelude.{◌≡◌, ℕ, List, true, false, IsTrue}
+use Rattle.std.specs.Prelude.{◌≡◌, ℕ, Bool, List, true, false, IsTrue}
 use Rattle.ecma_number.specs.declared.types.Purity.TheVariants.{Pure}
 use Rattle.ecma_number.specs.declared.value.Value.TheVariants.{Known}
 use Rattle.ecma_tree.specs.declared.node.Node.{Node, out-Node}
@@ -14,7 +14,7 @@ use Rattle.ecma_runs.specs.Laws.{state_behind}
 use Rattle.ecma_judge_runs.specs.Still.{Still}
 use Rattle.ecma_judge_runs.specs.Taken.{is_taken}
 use Rattle.ecma_judge_runs.specs.Called.{is_function_expression, declares_no_loose, called}
-use Rattle.ecma_judge_runs.specs.Known.{IsAsJudged, is_valued, declares_no_global}
+use Rattle.ecma_judge_runs.specs.Known.{IsAsJudged, ConstructsObjects, is_valued, declares_no_global}
 
 -- where a name that no scope declares may not be read wherever it stands, an expression that is said to have no effects leaves all as it was, however it comes out: with a value, with what is thrown, or with what is open
 abbrev pub WhatHasNoEffectsIsStill : Type 0
@@ -37,7 +37,7 @@ CallsOfPureCalleesAreStill =
 -- a value that an expression gives is as the expression is judged: the truth, the Number, the text and the type that are known are its own
 abbrev pub WhatIsKnownIsSo : Type 0
 WhatIsKnownIsSo =
-    (ctx : ExprCtx) (e : Node) (x : ExecutionContext) (s t : State) (v : Value) → IsTrue (declares_no_global ctx x.scope) → IsTrue (is_valued e) → (meaning e).value x s ≡ Done v t →
+    (ctx : ExprCtx) (objects : Bool) (e : Node) (x : ExecutionContext) (s t : State) (v : Value) → (objects ≡ true → ConstructsObjects x) → IsTrue (declares_no_global ctx x.scope) → IsTrue (is_valued objects e) → (meaning e).value x s ≡ Done v t →
     IsAsJudged (judged ctx e) v
 
 -- what tells whether an expression counts as true leaves all as it was, where it is said to be pure, known or not, and however it comes out

@@ -24,7 +24,7 @@ pub fn calls_of_pure_callees_are_still()
 {}
 
 /// A value that an expression gives is as the expression is judged. Asked is that no scope around declares a name with the context of what is not resolved, that
-/// no target of an assignment has a default, and that what is known is told from no construction.
+/// no target of an assignment has a default, and that what is known is told from no construction, unless what the functions of the program construct are objects.
 pub fn what_is_known_is_so()
     ensures { WhatIsKnownIsSo }
 {}
