@@ -1,5 +1,5 @@
 -- When a quotient is zero or NaN.
-use Rattle.std.proofs.Common.{◌≡◌, refl, sym, ap, ◌∙◌, subst, ℕ, zero, suc, arith, eqb-true, Option, Some, None, Bool, true, false, ◌||◌, ◌==◌, ◌+◌, ◌*◌, if◌then◌else◌}
+use Rattle.std.proofs.Common.{◌≡◌, refl, sym, ap, ◌∙◌, subst, ℕ, zero, suc, arith, eqb-true, Some, None, Bool, true, false, ◌||◌, ◌==◌, ◌+◌, ◌*◌, if◌then◌else◌}
 use Rattle.std.proofs.lemmas.Int.{ints, quot-rem, unsigned_abs-mul}
 use Rattle.std.specs.Prelude.{ℤ, pos, ◌+ℤ◌, ◌*ℤ◌, int_div, int_rem}
 use Rattle.std.specs.Int.RustNames.{unsigned_abs}

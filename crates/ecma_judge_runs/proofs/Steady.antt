@@ -30,7 +30,7 @@ use Rattle.ecma_judge.specs.Texts.{text_by, element_by, is_nothing_by, joined_be
 use Rattle.ecma_judge.specs.Truths.{truth_by, is_false_name, or_truth, and_truth}
 use Rattle.ecma_judge.specs.Types.{type_by, common_type}
 use Rattle.ecma_judge.proofs.Judging.{truth-out, number-out, text-out, type-out, element-out}
-use Rattle.ecma_runs.specs.Values.{Value, Truth, Number, Own, truth_of}
+use Rattle.ecma_runs.specs.Values.{Value, Truth, Own, truth_of}
 use Rattle.ecma_runs.specs.State.{State}
 use Rattle.ecma_runs.specs.Run.{Outcome, Done, Thrown, Returned, Broken, Continued, Ended, Run, ◌>>=◌, give, outside}
 use Rattle.ecma_runs.specs.Objects.{new_array}
