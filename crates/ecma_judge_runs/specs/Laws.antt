@@ -1,7 +1,8 @@
 -- What is judged of expressions is so when they run.
-use Rattle.std.specs.Prelude.{◌≡◌, ℕ, Bool, List, true, false, IsTrue}
+use Rattle.std.specs.Prelude.{◌≡◌, ℕ, Bool, List, [], ◌∷◌, true, false, IsTrue}
 use Rattle.ecma_number.specs.declared.types.Purity.TheVariants.{Pure}
 use Rattle.ecma_number.specs.declared.value.Value.TheVariants.{Known}
+use Rattle.ecma_kind.specs.declared.kind.Kind.TheVariants as kind
 use Rattle.ecma_tree.specs.declared.node.Node.{Node, out-Node}
 use Rattle.ecma_judge.specs.declared.ctx.ExprCtx.{ExprCtx}
 use Rattle.ecma_judge.specs.Judged.{judged}
@@ -33,6 +34,13 @@ abbrev pub CallsOfPureCalleesAreStill : Type 0
 CallsOfPureCalleesAreStill =
     (ctx : ExprCtx) (e : Node) (x : ExecutionContext) (arguments : List Value) (s : State) → IsTrue (declares_no_loose ctx x.scope) → is_function_expression (out-Node e).kind ≡ false →
     (judged ctx e).pure_callee ≡ true → Still s (state_behind (called (meaning e) arguments x s))
+
+-- and so does a call of such an expression where it stands, on arguments, where the call is said to have no effects
+abbrev pub PureCallsAreStill : Type 0
+PureCallsAreStill =
+    (ctx : ExprCtx) (e callee arguments types : Node) (x : ExecutionContext) (s : State) → ctx.is_unresolved_ref_safe ≡ false → IsTrue (declares_no_loose ctx x.scope) → (out-Node e).kind ≡ kind.CallExpr →
+    (out-Node e).children ≡ callee ∷ arguments ∷ types ∷ [] → is_function_expression (out-Node callee).kind ≡ false → IsTrue (is_taken ctx x.known.declared arguments) → (judged ctx e).effects ≡ false →
+    Still s (state_behind ((meaning e).value x s))
 
 -- a value that an expression gives is as the expression is judged: the truth, the Number, the text and the type that are known are its own
 abbrev pub WhatIsKnownIsSo : Type 0
