@@ -4,7 +4,7 @@ use Rattle.ecma_runs.specs.State.{State}
 use Rattle.ecma_runs.specs.Laws.{state_behind}
 use Rattle.ecma_runs.specs.Evaluation.{meaning_by, meaning}
 use Rattle.ecma_judge_runs.specs.Still.{Still}
-use Rattle.ecma_judge_runs.specs.Laws.{WhatHasNoEffectsIsStill, ClassesWithoutEffectsAreStill, CallsOfPureCalleesAreStill, WhatIsKnownIsSo, WhatIsPureIsStill, WhatIsAPureNumberIsStill, WhatHasAKnownTextIsStill, PureCallsAreStill}
+use Rattle.ecma_judge_runs.specs.Laws.{WhatHasNoEffectsIsStill, ClassesWithoutEffectsAreStill, CallsOfPureCalleesAreStill, WhatIsKnownIsSo, WhatIsPureIsStill, WhatIsAPureNumberIsStill, WhatHasAKnownTextIsStill, PureCallsAreStill, PureCalleesAreStill}
 use Rattle.ecma_judge_runs.proofs.Fronts.{still_itself}
 use Rattle.ecma_judge_runs.proofs.Leaving.{Leaves, behind}
 use Rattle.ecma_judge_runs.proofs.Nodes.{claim}
@@ -19,7 +19,7 @@ use Rattle.ecma_tree.specs.declared.node.Node.{out-Node}
 use Rattle.ecma_judge.proofs.Judging.{callee-out}
 use Rattle.ecma_runs.proofs.Layer.{meaning_out}
 use Rattle.ecma_judge_runs.specs.Called.{called}
-use Rattle.ecma_judge_runs.proofs.Callees.{call_on, call_leaves, call_parts}
+use Rattle.ecma_judge_runs.proofs.Callees.{read_callee, call_on, call_leaves, call_parts}
 
 -- what leaves all as it was from a state leaves that state as it was
 still_behind : {A : Type 0} (m : Run A) (s : State) → Leaves s m → Still s (state_behind (m s))
@@ -47,6 +47,9 @@ pub calls_of_pure_callees_are_still : CallsOfPureCalleesAreStill
 calls_of_pure_callees_are_still ctx e x arguments s apart other pure =
     still_behind (called (meaning e) arguments x) s
     (subst (λ m. Leaves s (called m arguments x)) (sym (meaning_out e)) (call_on ctx s x apart arguments e (out-Node e).kind (out-Node e).children refl other (sym (callee-out ctx e) ∙ pure)))
+
+pub pure_callees_are_still : PureCalleesAreStill
+pure_callees_are_still ctx e x s apart other pure = still_behind ((meaning e).value x) s (read_callee ctx s x apart e other (sym (callee-out ctx e) ∙ pure))
 
 pub pure_calls_are_still : PureCallsAreStill
 pure_calls_are_still ctx e callee arguments types x s off apart is shape other taken none =

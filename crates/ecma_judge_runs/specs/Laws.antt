@@ -35,6 +35,12 @@ CallsOfPureCalleesAreStill =
     (ctx : ExprCtx) (e : Node) (x : ExecutionContext) (arguments : List Value) (s : State) → IsTrue (declares_no_loose ctx x.scope) → is_function_expression (out-Node e).kind ≡ false →
     (judged ctx e).pure_callee ≡ true → Still s (state_behind (called (meaning e) arguments x s))
 
+-- and so does such an expression itself, as a member that is read
+abbrev pub PureCalleesAreStill : Type 0
+PureCalleesAreStill =
+    (ctx : ExprCtx) (e : Node) (x : ExecutionContext) (s : State) → IsTrue (declares_no_loose ctx x.scope) → is_function_expression (out-Node e).kind ≡ false → (judged ctx e).pure_callee ≡ true →
+    Still s (state_behind ((meaning e).value x s))
+
 -- and so does a call of such an expression where it stands, on arguments, where the call is said to have no effects
 abbrev pub PureCallsAreStill : Type 0
 PureCallsAreStill =

@@ -3,7 +3,7 @@
 //! Each function carries one law, and does nothing. The laws are stated in `specs/Laws.antt`.
 #![tactic(auto)]
 
-ghost use Rattle.ecma_judge_runs.specs.Laws.{CallsOfPureCalleesAreStill, ClassesWithoutEffectsAreStill, PureCallsAreStill, WhatHasAKnownTextIsStill, WhatHasNoEffectsIsStill, WhatIsAPureNumberIsStill, WhatIsKnownIsSo, WhatIsPureIsStill};
+ghost use Rattle.ecma_judge_runs.specs.Laws.{CallsOfPureCalleesAreStill, ClassesWithoutEffectsAreStill, PureCalleesAreStill, PureCallsAreStill, WhatHasAKnownTextIsStill, WhatHasNoEffectsIsStill, WhatIsAPureNumberIsStill, WhatIsKnownIsSo, WhatIsPureIsStill};
 
 /// An expression that is said to have no effects changes nothing when it is evaluated: no variable, no object, and nothing that the host sees; however it comes
 /// out. It may make objects and environment records. Asked is that its names are told, and that it has no member, call or optional chain outside of functions.
@@ -43,6 +43,11 @@ pub fn what_is_a_pure_number_is_still()
 /// And where its text is known.
 pub fn what_has_a_known_text_is_still()
     ensures { WhatHasAKnownTextIsStill }
+{}
+
+/// Nor does such a callee itself, as the members `Math.max` and `"a".trim` that are read.
+pub fn pure_callees_are_still()
+    ensures { PureCalleesAreStill }
 {}
 
 /// A call of such a callee where it stands, as `Math.max(a, b)`, changes nothing where it is said to have no effects. Asked is what the law on effects asks of its
