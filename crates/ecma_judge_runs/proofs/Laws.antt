@@ -13,7 +13,7 @@ use Rattle.ecma_judge_runs.specs.Known.{IsAsJudged}
 use Rattle.ecma_judge_runs.proofs.Giving.{gave_done}
 use Rattle.ecma_judge_runs.proofs.ValuedNodes.{valued}
 use Rattle.ecma_judge_runs.proofs.Steady.{steady}
-use Rattle.std.proofs.Common.{refl, sym, ◌∙◌, subst, [], ◌∷◌, map}
+use Rattle.std.proofs.Common.{refl, sym, ◌∙◌, subst, map}
 use Rattle.ecma_kind.specs.declared.kind.Kind.TheVariants as kind
 use Rattle.ecma_tree.specs.declared.node.Node.{out-Node}
 use Rattle.ecma_judge.proofs.Judging.{callee-out}
