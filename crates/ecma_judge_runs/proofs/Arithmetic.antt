@@ -17,7 +17,7 @@ abbrev or_given : {A : Type 0} → A → Option A → A
 or_given a None = a
 or_given a (Some b) = b
 
-same_some : {A : Type 0} (a b : A) → Some a ≡ Some b → a ≡ b
+pub same_some : {A : Type 0} (a b : A) → Some a ≡ Some b → a ≡ b
 same_some a b h = ap (λ o. or_given a o) h
 
 -- it counts as false
@@ -28,7 +28,7 @@ no_more : (b : Bool) → (b || false || false) ≡ b
 no_more true = refl
 no_more false = refl
 
-abs_zero : (z : ℤ) → (unsigned_abs z == 0) ≡ true → z ≡ pos 0
+pub abs_zero : (z : ℤ) → (unsigned_abs z == 0) ≡ true → z ≡ pos 0
 abs_zero (pos n) e = ap pos (eqb-true n 0 e)
 abs_zero (negsuc n) e = let none : suc n ≡ 0 = eqb-true (suc n) 0 e in absurd (omega (arith, none))
 
@@ -43,7 +43,7 @@ whole_difference m n =
     (λ e. let zero_sum : m +ℤ neg_ℤ n ≡ pos 0 = abs_zero (m +ℤ neg_ℤ n) e in (Decides-int_eq m n).1 (omega (arith, ints, zero_sum)))
     (λ e. let same : m ≡ n = (Decides-int_eq m n).0 e in let none : m +ℤ neg_ℤ n ≡ pos 0 = omega (arith, ints, same) in ap (λ z. unsigned_abs z == 0) none)
 
-whole_if : (b : Bool) (z : ℤ) (r : JsNumber) → (if b then Some (Whole z) else None) ≡ Some r → Whole z ≡ r
+pub whole_if : (b : Bool) (z : ℤ) (r : JsNumber) → (if b then Some (Whole z) else None) ≡ Some r → Whole z ≡ r
 whole_if true z r is = same_some (Whole z) r is
 whole_if false z r is = absurd (cc)
 

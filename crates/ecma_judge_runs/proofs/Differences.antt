@@ -1,11 +1,11 @@
--- What is told of Numbers with a minus, of differences, and of `&` and `|` of truths.
+-- What is told of Numbers with a minus, of differences and quotients, and of `&` and `|` of truths.
 use Rattle.std.proofs.Common.{◌≡◌, refl, sym, ap, ap₂, ◌∙◌, subst, Option, Some, None, Bool, true, false, not, ◌&&◌, ◌||◌, if◌then◌else◌}
 use Rattle.std.specs.Option.{option_map}
 use Rattle.std.specs.Prelude.{ℕ, bit_and, bit_or}
-use Rattle.ecma_number.specs.Arithmetic.{unary_minus_of, difference_of}
+use Rattle.ecma_number.specs.Arithmetic.{unary_minus_of, difference_of, quotient_of}
 use Rattle.ecma_number.specs.Bits.{bitwise}
 use Rattle.ecma_number.specs.Equality.{are_equal}
-use Rattle.ecma_number.specs.JsNumber.{is_nan}
+use Rattle.ecma_number.specs.JsNumber.{is_nan, is_infinite, is_zero}
 use Rattle.ecma_number.specs.Types.{is_pure}
 use Rattle.ecma_number.specs.Value.{conjunction_of, disjunction_of}
 use Rattle.ecma_number.specs.declared.js_number.JsNumber.{JsNumber}
@@ -15,13 +15,14 @@ use Rattle.ecma_number.specs.declared.types.Purity.{Purity}
 use Rattle.ecma_number.specs.declared.types.Purity.TheVariants.{MayBeImpure, Pure}
 use Rattle.ecma_number.specs.declared.value.Value.{Value as KnownOr}
 use Rattle.ecma_number.specs.declared.value.Value.TheVariants.{Known, Unknown}
-use Rattle.ecma_judge.specs.Truths.{number_truth, negated_truth, difference_truth, is_bool, if_bools}
+use Rattle.ecma_judge.specs.Truths.{number_truth, negated_truth, difference_truth, quotient_truth, is_bool, if_bools}
 use Rattle.ecma_runs.specs.Values.{Value, Truth, Number, truth_of}
 use Rattle.ecma_runs.specs.Run.{given}
 use Rattle.ecma_runs.specs.Operators.{both, total, number_from}
 use Rattle.ecma_judge_runs.specs.Known.{HasTruth, HasNumber, HasType}
 use Rattle.ecma_judge_runs.proofs.Giving.{GivesBy, mapped_by, outside_gives}
 use Rattle.ecma_judge_runs.proofs.Arithmetic.{minus_nothing, difference_nothing, bit_of, and_bits, or_bits}
+use Rattle.ecma_judge_runs.proofs.Quotients.{quotient_nothing}
 use Rattle.ecma_judge_runs.proofs.Values.{number_is_true, some_same}
 
 pub pure_number : (p : Purity) (k : KnownOr JsNumber) (v : Value) → HasNumber k v → HasNumber (if is_pure p then k else Unknown) v
@@ -42,6 +43,16 @@ difference_fits (Known m) (Known n) v w h g a b r p q is =
 difference_fits (Known m) Unknown v w h g a b r p q is = tt
 difference_fits Unknown (Known n) v w h g a b r p q is = tt
 difference_fits Unknown Unknown v w h g a b r p q is = tt
+
+-- and a quotient of two
+
+pub quotient_fits : (k l : KnownOr JsNumber) (v w : Value) → HasNumber k v → HasNumber l w → (a b r : JsNumber) → number_from v ≡ Some a → number_from w ≡ Some b → quotient_of a b ≡ Some r
+    → HasTruth (quotient_truth k l) (Number r)
+quotient_fits (Known m) (Known n) v w h g a b r p q is =
+    number_is_true r ∙ (ap not (quotient_nothing a b r is) ∙ ap₂ (λ y z. not (is_nan y || is_nan z || is_zero y || is_infinite z)) (h a p) (g b q))
+quotient_fits (Known m) Unknown v w h g a b r p q is = tt
+quotient_fits Unknown (Known n) v w h g a b r p q is = tt
+quotient_fits Unknown Unknown v w h g a b r p q is = tt
 
 -- what two values give, where both are Numbers
 pub numbers_by : (P : Value → Type 0) (f : JsNumber → JsNumber → Option JsNumber) (o p : Option JsNumber) → ((a b r : JsNumber) → o ≡ Some a → p ≡ Some b → f a b ≡ Some r → P (Number r)) → GivesBy P (given (option_map Number (both f o p)))

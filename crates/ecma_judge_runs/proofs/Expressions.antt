@@ -20,7 +20,7 @@ use Rattle.ecma_runs.specs.Environment.{ToValue, empty, is_among}
 use Rattle.ecma_runs.specs.Meaning.{ExecutionContext, Meaning}
 use Rattle.ecma_runs.specs.Evaluation.{meaning}
 use Rattle.ecma_runs.specs.Operators.{key_from, short_circuit, unary_value}
-use Rattle.ecma_runs.specs.Expressions.{identifier, binary_rest, unary, sequence, function_value, value_of, reference_of, initial_of, all_elements, elements_of, key_of}
+use Rattle.ecma_runs.specs.Expressions.{identifier, binary_rest, unary, sequence, function_value, value_of, reference_of, initial_of, all_arguments, arguments_of, all_elements, elements_of, key_of}
 use Rattle.ecma_judge_runs.proofs.Leaving.{LeavesBy, Leaves, bind_by, bind_leaves, give_by, give_leaves, outside_leaves, when_leaves, given_leaves}
 use Rattle.ecma_judge_runs.proofs.Records.{Readable, new_environment_by, set_all_leaves, activation_leaves, this_leaves, resolved_by}
 use Rattle.ecma_judge_runs.proofs.Objects.{new_object_by, new_array_leaves, make_function_leaves, type_of_leaves}
@@ -80,6 +80,10 @@ module _ (ctx : ExprCtx) (off : ctx.is_unresolved_ref_safe ≡ false) (x : Execu
     function_value_leaves ids function made =
         bind_by old (new_environment_by old (map (empty true) ids) None) (λ entered new.
         bind_leaves old (made Plain None old (entered ∷ scope)) (λ f. bind_leaves old (set_all_leaves old ids entered.place (Own f) new) (λ _. give_leaves old (Own f))))
+
+    all_arguments_leaves : (ns : List (Claimed ctx x)) → AllQuiet ctx x ns → Leaves old (all_arguments (meanings ctx x ns) (within x scope))
+    all_arguments_leaves [] q = give_leaves old []
+    all_arguments_leaves (n ∷ ns) q = bind_leaves old (q.0.arguments old scope) (λ vs. bind_leaves old (all_arguments_leaves ns q.1) (λ ws. give_leaves old (vs ++ ws)))
 
     all_elements_leaves : (ns : List (Claimed ctx x)) → AllQuiet ctx x ns → Leaves old (all_elements (meanings ctx x ns) (within x scope))
     all_elements_leaves [] q = give_leaves old []
@@ -143,6 +147,13 @@ module _ (ctx : ExprCtx) (off : ctx.is_unresolved_ref_safe ≡ false) (x : Execu
     pub initial_leaves : (n : Node) (k : Kind) (ns : List (Claimed ctx x)) → HasNone ctx x n k ns → IsTaken ctx x k ns → Leaves old (initial_of n k (meanings ctx x ns) (within x scope))
     initial_leaves n kind.Absent ns none taken = give_leaves old Undefined
     initial_leaves n k ns none taken = value_leaves n k ns none taken
+
+    pub arguments_leaves : (n : Node) (k : Kind) (ns : List (Claimed ctx x)) → HasNone ctx x n k ns → IsTaken ctx x k ns → Leaves old (arguments_of n k (meanings ctx x ns) (within x scope))
+    unfolding effects_by access_effects_by part_effects_by pure_callee_by
+    arguments_leaves n kind.Absent ns none taken = give_leaves old []
+    arguments_leaves n kind.List ns none taken = all_arguments_leaves ns (all_quiet ctx x ns none taken)
+    arguments_leaves n (kind.TsTypeAliasDecl declare) ns none taken = give_leaves old []
+    arguments_leaves n k ns none taken = bind_leaves old (value_leaves n k ns none taken) (λ v. give_leaves old (v ∷ []))
 
     pub elements_leaves : (n : Node) (k : Kind) (ns : List (Claimed ctx x)) → HasNone ctx x n k ns → IsTaken ctx x k ns → Leaves old (elements_of n k (meanings ctx x ns) (within x scope))
     unfolding effects_by access_effects_by part_effects_by pure_callee_by

@@ -11,12 +11,17 @@ pub mod Giving
 pub mod Values
 pub mod Sums
 pub mod Arithmetic
+pub mod Quotients
 pub mod Differences
 pub mod Literals
 pub mod Operators
 pub mod Assignments
+pub mod Lengths
+pub mod Constructions
 pub mod Valuing
 pub mod ValuedNodes
+pub mod Idle
+pub mod Purities
 pub mod Steady
 pub mod Callees
 pub mod Laws

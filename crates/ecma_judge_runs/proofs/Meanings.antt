@@ -45,6 +45,7 @@ module _ (x : ExecutionContext) where
     pub value : Evaluates m.value
     pub reference : (old : State) (scope : List Entered) → LeavesBy old Readable (m.reference (within scope))
     pub initial : Evaluates m.initial
+    pub arguments : Evaluates m.arguments
     pub elements : Evaluates m.elements
     pub key : Evaluates m.key
     pub class_made : (names : List Id) → Evaluates (m.class_made names)

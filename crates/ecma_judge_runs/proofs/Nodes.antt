@@ -17,7 +17,7 @@ use Rattle.ecma_runs.proofs.Layer.{meaning-roll}
 use Rattle.ecma_judge_runs.specs.Taken.{is_taken, is_taken_by, is_taken_step}
 use Rattle.ecma_judge_runs.proofs.Leaving.{bind_leaves, give_by, give_leaves, outside_leaves}
 use Rattle.ecma_judge_runs.proofs.Meanings.{Makes, Quiet, Claim, Claimed, nodes, meanings, HasNone, IsTaken, first_quiet}
-use Rattle.ecma_judge_runs.proofs.Expressions.{value_leaves, reference_by, initial_leaves, elements_leaves, key_leaves}
+use Rattle.ecma_judge_runs.proofs.Expressions.{value_leaves, reference_by, initial_leaves, arguments_leaves, elements_leaves, key_leaves}
 use Rattle.ecma_judge_runs.proofs.Classes.{made_leaves, class_made_leaves, defined_leaves, statics_leaves}
 
 pub taken-roll : (ctx : ExprCtx) (x : ExecutionContext) (parts : Node-F Node) → is_taken ctx x.known.declared (roll-Node parts) ≡ is_taken_by ctx x.known.declared parts.kind (map (is_taken ctx x.known.declared) parts.children)
@@ -40,6 +40,7 @@ module _ (ctx : ExprCtx) (off : ctx.is_unresolved_ref_safe ≡ false) (x : Execu
     value = λ old scope. outside_leaves old;
     reference = λ old scope. bind_leaves old (outside_leaves old) (λ v. give_by old (ToValue v) tt);
     initial = λ old scope. outside_leaves old;
+    arguments = λ old scope. give_leaves old [];
     elements = λ old scope. give_leaves old [];
     key = λ old scope. outside_leaves old;
     class_made = λ names old scope. outside_leaves old;
@@ -60,6 +61,7 @@ module _ (ctx : ExprCtx) (off : ctx.is_unresolved_ref_safe ≡ false) (x : Execu
     value = q.value;
     reference = q.reference;
     initial = q.initial;
+    arguments = q.arguments;
     elements = q.elements;
     key = q.key;
     class_made = q.class_made;
@@ -89,6 +91,7 @@ module _ (ctx : ExprCtx) (off : ctx.is_unresolved_ref_safe ≡ false) (x : Execu
     value = λ old scope. value_leaves ctx off x old scope n k ns none taken;
     reference = λ old scope. reference_by ctx off x old scope n k ns none taken;
     initial = λ old scope. initial_leaves ctx off x old scope n k ns none taken;
+    arguments = λ old scope. arguments_leaves ctx off x old scope n k ns none taken;
     elements = λ old scope. elements_leaves ctx off x old scope n k ns none taken;
     key = λ old scope. key_leaves ctx off x old scope n k ns none taken;
     class_made = λ names old scope. class_made_leaves ctx off x old scope n k ns none taken names;

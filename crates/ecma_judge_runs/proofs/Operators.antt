@@ -3,7 +3,7 @@ use Rattle.std.proofs.Common.{◌≡◌, refl, ap, ◌∙◌, subst, sym, ℕ, L
 use Rattle.std.specs.Prelude.{bit_and, bit_or}
 use Rattle.std.proofs.lemmas.Slice.Eq.{bytes_eq-Decides}
 use Rattle.std.specs.Option.{option_map}
-use Rattle.ecma_number.specs.Arithmetic.{unary_minus_of, difference_of, product_of, remainder_of, power_of}
+use Rattle.ecma_number.specs.Arithmetic.{unary_minus_of, difference_of, product_of, quotient_of, remainder_of, power_of}
 use Rattle.ecma_number.specs.Bits.{complement_of, left_shift_of, right_shift_of, unsigned_right_shift_of, bitwise}
 use Rattle.ecma_number.specs.Types.{is_pure}
 use Rattle.ecma_number.specs.declared.js_number.JsNumber.{JsNumber}
@@ -39,10 +39,10 @@ use Rattle.ecma_runs.specs.Objects.{Calling, Function, BoundFunction, calling_at
 use Rattle.ecma_runs.specs.Operators.{both, total, key_from, number_from, loosely_equal, strictly_equal, compared, added, short_circuit, unary_value}
 use Rattle.ecma_runs.specs.Functions.{read_typed, delete}
 use Rattle.ecma_runs.specs.Expressions.{is_in, binary_rest, unary}
-use Rattle.ecma_judge_runs.specs.Known.{HasTruth, HasNumber, HasType, IsAsJudged, is_told_of, is_spoken_of}
+use Rattle.ecma_judge_runs.specs.Known.{HasTruth, HasNumber, HasType, IsAsJudged, is_told_of}
 use Rattle.ecma_judge_runs.proofs.Giving.{GivesBy, bind_gives, then_gives, any_gives, weaker_gives, give_gives, throw_gives, outside_gives, when_gives, mapped_gives, mapped_by, both_give}
 use Rattle.ecma_judge_runs.proofs.Meanings.{both_true}
-use Rattle.ecma_judge_runs.proofs.Differences.{pure_number, minus_truth, difference_fits, numbers_by, and_fits_bits, or_fits_bits}
+use Rattle.ecma_judge_runs.proofs.Differences.{pure_number, minus_truth, difference_fits, quotient_fits, numbers_by, and_fits_bits, or_fits_bits}
 use Rattle.ecma_judge_runs.proofs.Literals.{Fits}
 use Rattle.ecma_judge_runs.proofs.Values.{not_truth, pure_truth, or_left, or_right, and_left, and_right, not_has_number, not_has_text, void_has_text, common_left, common_right, some_same}
 use Rattle.ecma_judge_runs.proofs.Sums.{Filled, filled_value, filled_sum, typed_sum}
@@ -227,37 +227,41 @@ module _ (ctx : ExprCtx) where
         weaker_gives (λ u r. record { truth = r.0; number = tt; text = tt; type = r.1 })
         (both_give (filled_sum v w (passes_at is_filled 0 n) (passes_at is_filled 1 n) (λ is. f is v p) (λ is. g is w q)) (typed_sum v w j.type l.type p.type q.type))))
 
-    pub binary_gives : (op : BinaryOp) → is_spoken_of op ≡ true → (passes_at is_filled 0 n ≡ true → (v : Value) → IsAsJudged j v → Filled v) → (passes_at is_filled 1 n ≡ true → (v : Value) → IsAsJudged l v → Filled v)
+    pub binary_gives : (op : BinaryOp) → (passes_at is_filled 0 n ≡ true → (v : Value) → IsAsJudged j v → Filled v) → (passes_at is_filled 1 n ≡ true → (v : Value) → IsAsJudged l v → Filled v)
         → GivesBy (FitsBetween op) (left.value x >>= λ v. binary_rest op (short_circuit op v) v right x)
     unfolding truth_by number_by text_by type_by
-    binary_gives binary.EqEq is f g = then_gives (left.value x) (λ v. then_gives (right.value x) (λ w. mapped_gives Truth (loosely_equal v w) (λ b. record { truth = tt; number = tt; text = tt; type = refl })))
-    binary_gives binary.NotEq is f g = as_truth binary.NotEq not loosely_equal (λ b. record { truth = tt; number = tt; text = tt; type = refl })
-    binary_gives binary.EqEqEq is f g = then_gives (left.value x) (λ v. then_gives (right.value x) (λ w. mapped_gives Truth (strictly_equal v w) (λ b. record { truth = tt; number = tt; text = tt; type = refl })))
-    binary_gives binary.NotEqEq is f g = as_truth binary.NotEqEq not strictly_equal (λ b. record { truth = tt; number = tt; text = tt; type = refl })
-    binary_gives binary.Lt is f g = then_gives (left.value x) (λ v. then_gives (right.value x) (λ w. mapped_gives Truth (compared (λ b. b) v w) (λ b. record { truth = tt; number = tt; text = tt; type = refl })))
-    binary_gives binary.LtEq is f g = then_gives (left.value x) (λ v. then_gives (right.value x) (λ w. mapped_gives Truth (compared not w v) (λ b. record { truth = tt; number = tt; text = tt; type = refl })))
-    binary_gives binary.Gt is f g = then_gives (left.value x) (λ v. then_gives (right.value x) (λ w. mapped_gives Truth (compared (λ b. b) w v) (λ b. record { truth = tt; number = tt; text = tt; type = refl })))
-    binary_gives binary.GtEq is f g = then_gives (left.value x) (λ v. then_gives (right.value x) (λ w. mapped_gives Truth (compared not v w) (λ b. record { truth = tt; number = tt; text = tt; type = refl })))
-    binary_gives binary.LShift is f g = as_number binary.LShift (λ v w. both (total left_shift_of) (number_from v) (number_from w)) (λ m. record { truth = tt; number = tt; text = tt; type = refl })
-    binary_gives binary.RShift is f g = as_number binary.RShift (λ v w. both (total right_shift_of) (number_from v) (number_from w)) (λ m. record { truth = tt; number = tt; text = tt; type = refl })
-    binary_gives binary.ZeroFillRShift is f g = as_number binary.ZeroFillRShift (λ v w. both (total unsigned_right_shift_of) (number_from v) (number_from w)) (λ m. record { truth = tt; number = tt; text = tt; type = refl })
-    binary_gives binary.Add is f g = add_fits f g
-    binary_gives binary.Sub is f g =
+    binary_gives binary.EqEq f g = then_gives (left.value x) (λ v. then_gives (right.value x) (λ w. mapped_gives Truth (loosely_equal v w) (λ b. record { truth = tt; number = tt; text = tt; type = refl })))
+    binary_gives binary.NotEq f g = as_truth binary.NotEq not loosely_equal (λ b. record { truth = tt; number = tt; text = tt; type = refl })
+    binary_gives binary.EqEqEq f g = then_gives (left.value x) (λ v. then_gives (right.value x) (λ w. mapped_gives Truth (strictly_equal v w) (λ b. record { truth = tt; number = tt; text = tt; type = refl })))
+    binary_gives binary.NotEqEq f g = as_truth binary.NotEqEq not strictly_equal (λ b. record { truth = tt; number = tt; text = tt; type = refl })
+    binary_gives binary.Lt f g = then_gives (left.value x) (λ v. then_gives (right.value x) (λ w. mapped_gives Truth (compared (λ b. b) v w) (λ b. record { truth = tt; number = tt; text = tt; type = refl })))
+    binary_gives binary.LtEq f g = then_gives (left.value x) (λ v. then_gives (right.value x) (λ w. mapped_gives Truth (compared not w v) (λ b. record { truth = tt; number = tt; text = tt; type = refl })))
+    binary_gives binary.Gt f g = then_gives (left.value x) (λ v. then_gives (right.value x) (λ w. mapped_gives Truth (compared (λ b. b) w v) (λ b. record { truth = tt; number = tt; text = tt; type = refl })))
+    binary_gives binary.GtEq f g = then_gives (left.value x) (λ v. then_gives (right.value x) (λ w. mapped_gives Truth (compared not v w) (λ b. record { truth = tt; number = tt; text = tt; type = refl })))
+    binary_gives binary.LShift f g = as_number binary.LShift (λ v w. both (total left_shift_of) (number_from v) (number_from w)) (λ m. record { truth = tt; number = tt; text = tt; type = refl })
+    binary_gives binary.RShift f g = as_number binary.RShift (λ v w. both (total right_shift_of) (number_from v) (number_from w)) (λ m. record { truth = tt; number = tt; text = tt; type = refl })
+    binary_gives binary.ZeroFillRShift f g = as_number binary.ZeroFillRShift (λ v w. both (total unsigned_right_shift_of) (number_from v) (number_from w)) (λ m. record { truth = tt; number = tt; text = tt; type = refl })
+    binary_gives binary.Add f g = add_fits f g
+    binary_gives binary.Sub f g =
         bind_gives hl (λ v p. bind_gives hr (λ w q. numbers_by (FitsBetween binary.Sub) difference_of (number_from v) (number_from w)
         (λ a b r pa qb is. record { truth = difference_fits j.number.1 l.number.1 v w p.number q.number a b r pa qb is; number = tt; text = tt; type = refl })))
-    binary_gives binary.Mul is f g = as_number binary.Mul (λ v w. both product_of (number_from v) (number_from w)) (λ m. record { truth = tt; number = tt; text = tt; type = refl })
-    binary_gives binary.Div is f g = absurd (cc)
-    binary_gives binary.Mod is f g = as_number binary.Mod (λ v w. both remainder_of (number_from v) (number_from w)) (λ m. record { truth = tt; number = tt; text = tt; type = refl })
-    binary_gives binary.BitOr is f g =
+    binary_gives binary.Mul f g = as_number binary.Mul (λ v w. both product_of (number_from v) (number_from w)) (λ m. record { truth = tt; number = tt; text = tt; type = refl })
+    binary_gives binary.Div f g =
+        let k = if is_pure j.number.0 then j.number.1 else Unknown in
+        let m = if is_pure l.number.0 then l.number.1 else Unknown in
+        bind_gives hl (λ v p. bind_gives hr (λ w q. numbers_by (FitsBetween binary.Div) quotient_of (number_from v) (number_from w)
+        (λ a b r pa qb is. record { truth = quotient_fits k m v w (pure_number j.number.0 j.number.1 v p.number) (pure_number l.number.0 l.number.1 w q.number) a b r pa qb is; number = tt; text = tt; type = refl })))
+    binary_gives binary.Mod f g = as_number binary.Mod (λ v w. both remainder_of (number_from v) (number_from w)) (λ m. record { truth = tt; number = tt; text = tt; type = refl })
+    binary_gives binary.BitOr f g =
         bind_gives hl (λ v p. bind_gives hr (λ w q. numbers_by (FitsBetween binary.BitOr) (total (bitwise bit_or)) (number_from v) (number_from w)
         (λ a b r pa qb is. record { truth = or_fits_bits j.type l.type j.truth.1 l.truth.1 v w p.type q.type p.truth q.truth a b r pa qb is; number = tt; text = tt; type = refl })))
-    binary_gives binary.BitXor is f g = as_number binary.BitXor (λ v w. both (total (bitwise bit_xor)) (number_from v) (number_from w)) (λ m. record { truth = tt; number = tt; text = tt; type = refl })
-    binary_gives binary.BitAnd is f g =
+    binary_gives binary.BitXor f g = as_number binary.BitXor (λ v w. both (total (bitwise bit_xor)) (number_from v) (number_from w)) (λ m. record { truth = tt; number = tt; text = tt; type = refl })
+    binary_gives binary.BitAnd f g =
         bind_gives hl (λ v p. bind_gives hr (λ w q. numbers_by (FitsBetween binary.BitAnd) (total (bitwise bit_and)) (number_from v) (number_from w)
         (λ a b r pa qb is. record { truth = and_fits_bits j.type l.type j.truth.1 l.truth.1 v w p.type q.type p.truth q.truth a b r pa qb is; number = tt; text = tt; type = refl })))
-    binary_gives binary.LogicalOr is f g = bind_gives hl (λ v h. or_fits v h (truth_of v) refl)
-    binary_gives binary.LogicalAnd is f g = bind_gives hl (λ v h. and_fits v h (truth_of v) refl)
-    binary_gives binary.In is f g = then_gives (left.value x) (λ v. then_gives (right.value x) (λ w. weaker_gives (λ u h. record { truth = tt; number = tt; text = tt; type = h }) (is_in_gives v w)))
-    binary_gives binary.InstanceOf is f g = then_gives (left.value x) (λ v. then_gives (right.value x) (λ w. weaker_gives (λ u h. record { truth = tt; number = tt; text = tt; type = h }) (instance_of_gives v w)))
-    binary_gives binary.Exp is f g = as_number binary.Exp (λ v w. both power_of (number_from v) (number_from w)) (λ m. record { truth = tt; number = tt; text = tt; type = refl })
-    binary_gives binary.NullishCoalescing is f g = any_gives (λ v. record { truth = tt; number = tt; text = tt; type = tt })
+    binary_gives binary.LogicalOr f g = bind_gives hl (λ v h. or_fits v h (truth_of v) refl)
+    binary_gives binary.LogicalAnd f g = bind_gives hl (λ v h. and_fits v h (truth_of v) refl)
+    binary_gives binary.In f g = then_gives (left.value x) (λ v. then_gives (right.value x) (λ w. weaker_gives (λ u h. record { truth = tt; number = tt; text = tt; type = h }) (is_in_gives v w)))
+    binary_gives binary.InstanceOf f g = then_gives (left.value x) (λ v. then_gives (right.value x) (λ w. weaker_gives (λ u h. record { truth = tt; number = tt; text = tt; type = h }) (instance_of_gives v w)))
+    binary_gives binary.Exp f g = as_number binary.Exp (λ v w. both power_of (number_from v) (number_from w)) (λ m. record { truth = tt; number = tt; text = tt; type = refl })
+    binary_gives binary.NullishCoalescing f g = any_gives (λ v. record { truth = tt; number = tt; text = tt; type = tt })

@@ -1,9 +1,13 @@
--- What tells a truth with the purity of what is pure leaves all as it was, whether the truth is known or not.
-use Rattle.std.proofs.Common.{◌≡◌, refl, sym, ap, ◌∙◌, subst, ◌⊎◌, inl, inr, ℕ, List, [], ◌∷◌, map, Some, Bool, true, false, not, ◌&&◌, ◌||◌, ◌==◌, bytes_eq, codes, if◌then◌else◌}
-use Rattle.std.proofs.lemmas.Slice.Eq.{bytes_eq-Decides}
-use Rattle.ecma_number.specs.Types.{purity_of_both}
+-- What tells a truth or a Number with the purity of what is pure, or knows a text, leaves all as it was.
+use Rattle.std.proofs.Common.{◌≡◌, refl, sym, ap, ◌∙◌, subst, ◌⊎◌, inl, inr, ◌++◌, ℕ, List, [], ◌∷◌, map, Some, Bool, true, false, not, ◌&&◌, ◌==◌, bytes_eq, codes, if◌then◌else◌, slice_get}
+use Rattle.std.specs.List.{list_all}
+use Rattle.std.specs.Option.{option_map_or}
+use Rattle.ecma_number.specs.Arithmetic.{difference_of, quotient_of}
+use Rattle.ecma_number.specs.Bits.{bitwise}
+use Rattle.ecma_number.specs.Types.{is_pure}
+use Rattle.ecma_number.specs.declared.js_number.JsNumber.{JsNumber}
 use Rattle.ecma_number.specs.declared.types.Purity.{Purity}
-use Rattle.ecma_number.specs.declared.types.Purity.TheVariants.{MayBeImpure, Pure}
+use Rattle.ecma_number.specs.declared.types.Purity.TheVariants.{Pure}
 use Rattle.ecma_number.specs.declared.value.Value.{Value as KnownOr}
 use Rattle.ecma_number.specs.declared.value.Value.TheVariants.{Known, Unknown}
 use Rattle.ecma_kind.specs.declared.kind.Kind.{Kind}
@@ -17,28 +21,39 @@ use Rattle.ecma_tree.specs.declared.node.Node.{Node, Node-F, roll-Node, out-Node
 use Rattle.ecma_tree.specs.declared.node.Node.TheViews.{out-roll-Node}
 use Rattle.ecma_judge.specs.declared.ctx.ExprCtx.{ExprCtx}
 use Rattle.ecma_judge.specs.Effects.{is_safe_name, effects_by, access_effects_by, part_effects_by}
-use Rattle.ecma_judge.specs.Judged.{judged}
+use Rattle.ecma_judge.specs.Judged.{judged, kids_of}
 use Rattle.ecma_judge.specs.Judgement.{Judged, purity_of}
+use Rattle.ecma_judge.specs.Numbers.{number_by, array_number, is_infinity}
+use Rattle.ecma_judge.specs.Parts.{passes_at}
 use Rattle.ecma_judge.specs.PureCallees.{pure_callee_by}
+use Rattle.ecma_judge.specs.Texts.{text_by, element_by, is_nothing_by, joined_behind, followed_by, is_text_name}
 use Rattle.ecma_judge.specs.Truths.{truth_by, is_false_name, or_truth, and_truth}
-use Rattle.ecma_judge.proofs.Judging.{truth-out}
-use Rattle.ecma_runs.specs.Values.{Value, truth_of}
+use Rattle.ecma_judge.specs.Types.{type_by, common_type}
+use Rattle.ecma_judge.proofs.Judging.{truth-out, number-out, text-out, type-out, element-out}
+use Rattle.ecma_runs.specs.Values.{Value, Truth, Own, truth_of}
 use Rattle.ecma_runs.specs.State.{State}
-use Rattle.ecma_runs.specs.Run.{Outcome, Done, Thrown, Returned, Broken, Continued, Ended, Run}
+use Rattle.ecma_runs.specs.Run.{Outcome, Done, Thrown, Returned, Broken, Continued, Ended, Run, ◌>>=◌, give, outside}
+use Rattle.ecma_runs.specs.Objects.{new_array}
 use Rattle.ecma_runs.specs.Meaning.{ExecutionContext, Meaning}
 use Rattle.ecma_runs.specs.Evaluation.{meaning_by, meaning}
-use Rattle.ecma_runs.specs.Operators.{unary_value}
-use Rattle.ecma_runs.specs.Expressions.{binary_rest}
+use Rattle.ecma_runs.specs.Operators.{total, number_from, unary_value}
+use Rattle.ecma_runs.specs.Expressions.{binary_rest, all_elements}
 use Rattle.ecma_runs.proofs.Layer.{meaning-roll}
+use Rattle.std.specs.Prelude.{bit_and, bit_or}
 use Rattle.ecma_judge_runs.specs.Taken.{is_taken, is_taken_by}
-use Rattle.ecma_judge_runs.specs.Known.{HasTruth, Marks, marks, is_told_of, is_spoken_of, is_no_difference, is_valued, is_valued_by, is_steady, is_steady_by, declares_no_global}
+use Rattle.ecma_judge_runs.specs.Known.{HasTruth, HasNumber, HasText, HasType, IsAsJudged, declares_no_global}
 use Rattle.ecma_judge_runs.proofs.Leaving.{Follows, LeavesBy, Leaves, bind_by, bind_leaves, give_leaves, outside_leaves, given_leaves}
-use Rattle.ecma_judge_runs.proofs.Giving.{Gave, GivesBy, weaker_gives}
-use Rattle.ecma_judge_runs.proofs.Literals.{apart_from}
+use Rattle.ecma_judge_runs.proofs.Giving.{Gave, GivesBy, bind_gives, then_gives, any_gives, weaker_gives, give_gives, outside_gives}
+use Rattle.ecma_judge_runs.proofs.Literals.{Fits, apart_from}
 use Rattle.ecma_judge_runs.proofs.Meanings.{both_true}
+use Rattle.ecma_judge_runs.proofs.Objects.{new_array_leaves}
 use Rattle.ecma_judge_runs.proofs.Reading.{applied_leaves}
+use Rattle.ecma_judge_runs.proofs.Differences.{pure_number, difference_fits, quotient_fits, numbers_by, and_fits_bits, or_fits_bits}
+use Rattle.ecma_judge_runs.proofs.Values.{not_truth, pure_truth, not_has_number, array_has_number, or_left, or_right, and_left, and_right, common_left, common_right}
+use Rattle.ecma_judge_runs.proofs.Purities.{none_of, is_pure_of, both_pure, or_pure, and_pure, unsafe_none, Readable, truth_readable, number_readable, text_readable, undefined_readable, bang_pure, bang_text_pure, void_pure, minus_pure, infinity_none, followed_known}
 use Rattle.ecma_judge_runs.proofs.Nodes.{claim, taken-roll, effects-roll}
-use Rattle.ecma_judge_runs.proofs.ValuedNodes.{valued, marks-roll}
+use Rattle.ecma_judge_runs.proofs.ValuedNodes.{valued}
+use Rattle.ecma_judge_runs.proofs.Idle.{idle_valued}
 
 -- ---- what is left as it was, with what is given
 
@@ -53,72 +68,22 @@ follows_gave old Q (Ended why s) f g = f
 leaves_giving : {A : Type 0} (old : State) {Q : A → Type 0} {m : Run A} → Leaves old m → GivesBy Q m → LeavesBy old Q m
 leaves_giving old {Q = Q} {m = m} h g = record { at = λ s still. follows_gave old Q (m s) (h.at s still) (g.at s) }
 
--- ---- purities
-
-none_of : (b : Bool) → purity_of b ≡ Pure → b ≡ false
-none_of true is = absurd (cc)
-none_of false is = refl
-
--- a disjunction is pure where its left side is, and its right side is, or is left out
-abbrev LeftOr : Bool → Purity → KnownOr Bool → Purity → Type 0
-LeftOr b p k q = (p ≡ Pure) × ((k ≡ Known b) ⊎ (q ≡ Pure))
-
-both_pure : (p q : Purity) → purity_of_both p q ≡ Pure → (p ≡ Pure) × (q ≡ Pure)
-both_pure Pure Pure is = (refl, refl)
-both_pure Pure MayBeImpure is = absurd (cc)
-both_pure MayBeImpure q is = absurd (cc)
-
-behind_left : (b : Bool) (p q : Purity) (k : KnownOr Bool) → purity_of_both p q ≡ Pure → LeftOr b p k q
-behind_left b p q k is = let t = both_pure p q is in (t.0, inr t.1)
-
-or_pure : (p q : Purity) (k l : KnownOr Bool) → (or_truth (p, k) (q, l)).0 ≡ Pure → LeftOr true p k q
-or_pure p q (Known true) l is = (is, inl refl)
-or_pure p q (Known false) (Known true) is = behind_left true p q (Known false) is
-or_pure p q (Known false) (Known false) is = behind_left true p q (Known false) is
-or_pure p q (Known false) Unknown is = behind_left true p q (Known false) is
-or_pure p q Unknown (Known true) is = behind_left true p q Unknown is
-or_pure p q Unknown (Known false) is = behind_left true p q Unknown is
-or_pure p q Unknown Unknown is = behind_left true p q Unknown is
-
-and_pure : (p q : Purity) (k l : KnownOr Bool) → (and_truth (p, k) (q, l)).0 ≡ Pure → LeftOr false p k q
-and_pure p q (Known false) l is = (is, inl refl)
-and_pure p q (Known true) (Known false) is = behind_left false p q (Known true) is
-and_pure p q (Known true) (Known true) is = behind_left false p q (Known true) is
-and_pure p q (Known true) Unknown is = behind_left false p q (Known true) is
-and_pure p q Unknown (Known false) is = behind_left false p q Unknown is
-and_pure p q Unknown (Known true) is = behind_left false p q Unknown is
-and_pure p q Unknown Unknown is = behind_left false p q Unknown is
-
--- a name that is known to be false is safe to read
-
-unsafe_none : (global date safe_anywhere safe : Bool) → safe ≡ true → (not (global && date) && (not safe_anywhere && global && not safe)) ≡ false
-unsafe_none true true a true s = refl
-unsafe_none true false true true s = refl
-unsafe_none true false false true s = refl
-unsafe_none false d true true s = refl
-unsafe_none false d false true s = refl
-unsafe_none global d a false s = absurd (cc)
-
-either_true : (a b : Bool) → (a || b) ≡ true → (a ≡ true) ⊎ (b ≡ true)
-either_true true b is = inl refl
-either_true false b is = inr is
-
-false_name_safe : (name : List ℕ) → (bytes_eq name (codes "undefined") ≡ true) ⊎ (bytes_eq name (codes "NaN") ≡ true) → is_safe_name name ≡ true
-false_name_safe name (inl u) = let same : name ≡ codes "undefined" = (bytes_eq-Decides name (codes "undefined")).0 u in ap is_safe_name same
-false_name_safe name (inr n) = let same : name ≡ codes "NaN" = (bytes_eq-Decides name (codes "NaN")).0 n in ap is_safe_name same
-
-false_names_safe : (name : List ℕ) → is_false_name name ≡ true → is_safe_name name ≡ true
-false_names_safe name is = false_name_safe name (either_true (bytes_eq name (codes "undefined")) (bytes_eq name (codes "NaN")) is)
-
-name_purity : (b : Bool) (own : Purity) → (if◌then◌else◌ {A = Purity × KnownOr Bool} b (Pure, Known false) (own, Unknown)).0 ≡ Pure → (b ≡ true) ⊎ (own ≡ Pure)
-name_purity true own is = inl refl
-name_purity false own is = inr is
-
 -- ---- each node
 
 module _ (ctx : ExprCtx) (x : ExecutionContext) where
+  -- it leaves all as it was, and gives such a value
+  pub record Told (P : Value → Type 0) (m : Run Value) : Type 0 where
+    pub leaves : (old : State) → Leaves old m
+    pub gives : GivesBy P m
+
+  abbrev AsTruth : Judged → Value → Type 0
+  AsTruth j v = HasTruth j.truth.1 v × HasType j.type v
+
   pub record Steady (n : Node) : Type 0 where
-    pub at : is_taken ctx x.known.declared n ≡ true → is_valued n ≡ true → is_steady n ≡ true → (judged ctx n).truth.0 ≡ Pure → (old : State) → Leaves old ((meaning n).value x)
+    pub truth : is_taken ctx x.known.declared n ≡ true → (judged ctx n).truth.0 ≡ Pure → Told (AsTruth (judged ctx n)) ((meaning n).value x)
+    pub number : is_taken ctx x.known.declared n ≡ true → (judged ctx n).number.0 ≡ Pure → Told (HasNumber (judged ctx n).number.1) ((meaning n).value x)
+    pub text : is_taken ctx x.known.declared n ≡ true → (t : List ℕ) → (judged ctx n).text ≡ Known t → (old : State) → Leaves old ((meaning n).value x) × Leaves old ((meaning n).elements x)
+    pub element : is_taken ctx x.known.declared n ≡ true → (t : List ℕ) → (judged ctx n).element ≡ Known t → (old : State) → Leaves old ((meaning n).elements x)
 
   abbrev SteadyNode : Type 0
   SteadyNode = (n : Node) × Steady n
@@ -132,106 +97,366 @@ module _ (ctx : ExprCtx) (x : ExecutionContext) where
   abbrev judgements : List SteadyNode → List Judged
   judgements ns = map (judged ctx) (nodes ns)
 
+  abbrev takens : List SteadyNode → List Bool
+  takens ns = map (is_taken ctx x.known.declared) (nodes ns)
+
   abbrev effects_here : Node → Kind → List SteadyNode → Bool
   effects_here n k ns = not (pure_callee_by ctx k n) && effects_by ctx k n (judgements ns)
 
-module _ (ctx : ExprCtx) (off : ctx.is_unresolved_ref_safe ≡ false) (x : ExecutionContext) (apart : declares_no_global ctx x.scope ≡ true) where
-  -- behind a left side whose truth is known, or before a right side that is pure
-  module _ (old : State) (right : Meaning) where
-    or_rest : (v : Value) (b : Bool) → truth_of v ≡ b → (k : KnownOr Bool) (q : Purity) → HasTruth k v → (k ≡ Known true) ⊎ (q ≡ Pure) → (q ≡ Pure → Leaves old (right.value x)) → Leaves old (binary_rest binary.LogicalOr (Some b) v right x)
-    or_rest v true is k q h either hr = give_leaves old v
-    or_rest v false is k q h (inr pure) hr = hr pure
-    or_rest v false is k q h (inl known) hr = absurd (apart_from (truth_of v) (subst (λ z. HasTruth z v) known h) is)
+  abbrev own_here : Node → Kind → List SteadyNode → Purity
+  own_here n k ns = purity_of (effects_here n k ns)
 
-    and_rest : (v : Value) (b : Bool) → truth_of v ≡ b → (k : KnownOr Bool) (q : Purity) → HasTruth k v → (k ≡ Known false) ⊎ (q ≡ Pure) → (q ≡ Pure → Leaves old (right.value x)) → Leaves old (binary_rest binary.LogicalAnd (Some (not b)) v right x)
-    and_rest v false is k q h either hr = give_leaves old v
-    and_rest v true is k q h (inr pure) hr = hr pure
-    and_rest v true is k q h (inl known) hr = absurd (apart_from (truth_of v) is (subst (λ z. HasTruth z v) known h))
+  abbrev meant : Node → Kind → List SteadyNode → Meaning
+  meant n k ns = meaning_by n k (meanings ns)
 
-  -- what a side of `||` or `&&` leaves, and whether it counts as true
-  side_by : (old : State) (e : SteadyNode ctx x) → is_taken ctx x.known.declared e.0 ≡ true → is_valued e.0 ≡ true → is_steady e.0 ≡ true → (judged ctx e.0).truth.0 ≡ Pure → LeavesBy old (HasTruth (judged ctx e.0).truth.1) ((meaning e.0).value x)
-  side_by old e t v d pure = leaves_giving old (e.1.at t v d pure old) (weaker_gives (λ u h. h.truth) ((valued ctx x apart e.0).value v))
+  -- what is said of a node without effects
+  record Calm (n : Node) (k : Kind) (ns : List SteadyNode) : Type 0 where
+    pub leaves : (old : State) → Leaves old ((meant n k ns).value x)
+    pub elements : (old : State) → Leaves old ((meant n k ns).elements x)
+    pub gives : GivesBy (Fits ctx (own_here n k ns) n k (judgements ns)) ((meant n k ns).value x)
 
-  binary_steady : (op : BinaryOp) (n : Node) (l r : SteadyNode ctx x) → (is_taken ctx x.known.declared l.0 ≡ true) × (is_taken ctx x.known.declared r.0 ≡ true) → (is_valued l.0 ≡ true) × (is_valued r.0 ≡ true) → (is_steady l.0 ≡ true) × (is_steady r.0 ≡ true) → is_no_difference op ≡ true
-      → (old : State) → (effects_here ctx x n (kind.BinExpr op) (l ∷ r ∷ []) ≡ false → Leaves old ((meaning_by n (kind.BinExpr op) (meaning l.0 ∷ meaning r.0 ∷ [])).value x))
-      → (truth_by ctx (purity_of (effects_here ctx x n (kind.BinExpr op) (l ∷ r ∷ []))) (kind.BinExpr op) n (judged ctx l.0 ∷ judged ctx r.0 ∷ [])).0 ≡ Pure
-      → Leaves old ((meaning_by n (kind.BinExpr op) (meaning l.0 ∷ meaning r.0 ∷ [])).value x)
-  unfolding truth_by
-  binary_steady binary.LogicalOr n l r t v d spoken old quiet is =
-      let p = or_pure (judged ctx l.0).truth.0 (judged ctx r.0).truth.0 (judged ctx l.0).truth.1 (judged ctx r.0).truth.1 is in
-      bind_by old (side_by old l t.0 v.0 d.0 p.0) (λ u h. or_rest old (meaning r.0) u (truth_of u) refl (judged ctx l.0).truth.1 (judged ctx r.0).truth.0 h p.1 (λ pure. r.1.at t.1 v.1 d.1 pure old))
-  binary_steady binary.LogicalAnd n l r t v d spoken old quiet is =
-      let p = and_pure (judged ctx l.0).truth.0 (judged ctx r.0).truth.0 (judged ctx l.0).truth.1 (judged ctx r.0).truth.1 is in
-      bind_by old (side_by old l t.0 v.0 d.0 p.0) (λ u h. and_rest old (meaning r.0) u (truth_of u) refl (judged ctx l.0).truth.1 (judged ctx r.0).truth.0 h p.1 (λ pure. r.1.at t.1 v.1 d.1 pure old))
-  binary_steady binary.Sub n l r t v d spoken old quiet is = absurd (cc)
-  binary_steady binary.Div n l r t v d spoken old quiet is = absurd (cc)
-  binary_steady binary.BitAnd n l r t v d spoken old quiet is =
-      let p = both_pure (judged ctx l.0).truth.0 (judged ctx r.0).truth.0 is in
-      bind_leaves old (l.1.at t.0 v.0 d.0 p.0 old) (λ u. bind_leaves old (r.1.at t.1 v.1 d.1 p.1 old) (λ w. applied_leaves old binary.BitAnd u w))
-  binary_steady binary.BitOr n l r t v d spoken old quiet is =
-      let p = both_pure (judged ctx l.0).truth.0 (judged ctx r.0).truth.0 is in
-      bind_leaves old (l.1.at t.0 v.0 d.0 p.0 old) (λ u. bind_leaves old (r.1.at t.1 v.1 d.1 p.1 old) (λ w. applied_leaves old binary.BitOr u w))
-  binary_steady op n l r t v d spoken old quiet is = quiet (none_of (effects_here ctx x n (kind.BinExpr op) (l ∷ r ∷ [])) is)
+  abbrev IfCalm : Node → Kind → List SteadyNode → Type 0
+  IfCalm n k ns = effects_here n k ns ≡ false → Calm n k ns
 
-  unary_steady : (op : UnaryOp) (n : Node) (e : SteadyNode ctx x) → is_taken ctx x.known.declared e.0 ≡ true → is_told_of op (is_valued e.0) ≡ true → is_steady e.0 ≡ true
-      → (old : State) → (effects_here ctx x n (kind.UnaryExpr op) (e ∷ []) ≡ false → Leaves old ((meaning_by n (kind.UnaryExpr op) (meaning e.0 ∷ [])).value x))
-      → (truth_by ctx (purity_of (effects_here ctx x n (kind.UnaryExpr op) (e ∷ []))) (kind.UnaryExpr op) n (judged ctx e.0 ∷ [])).0 ≡ Pure
-      → Leaves old ((meaning_by n (kind.UnaryExpr op) (meaning e.0 ∷ [])).value x)
-  unfolding truth_by
-  unary_steady operator.Bang n e t v d old quiet is = bind_leaves old (e.1.at t v d is old) (λ u. given_leaves old (unary_value operator.Bang u))
-  unary_steady op n e t v d old quiet is = quiet (none_of (effects_here ctx x n (kind.UnaryExpr op) (e ∷ [])) is)
+  abbrev TruthHere : Node → Kind → List SteadyNode → Value → Type 0
+  TruthHere n k ns v = HasTruth (truth_by ctx (own_here n k ns) k n (judgements ns)).1 v × HasType (type_by ctx k n (judgements ns)) v
 
-  name_effects : (n : Node) (name : List ℕ) (ctxt : ℕ) (optional : Bool) (ns : List (SteadyNode ctx x))
-      → ((ctxt == ctx.unresolved_ctxt && is_false_name name) ≡ true) ⊎ (purity_of (effects_here ctx x n (kind.Ident name ctxt optional) ns) ≡ Pure) → effects_here ctx x n (kind.Ident name ctxt optional) ns ≡ false
+  abbrev NumberHere : Node → Kind → List SteadyNode → Value → Type 0
+  NumberHere n k ns v = HasNumber (number_by ctx (own_here n k ns) k n (judgements ns)).1 v
+
+  calm_truth : (n : Node) (k : Kind) (ns : List SteadyNode) → Calm n k ns → Told (TruthHere n k ns) ((meant n k ns).value x)
+  calm_truth n k ns c = record { leaves = c.leaves; gives = weaker_gives (λ v f. (f.truth, f.type)) c.gives }
+
+  calm_number : (n : Node) (k : Kind) (ns : List SteadyNode) → Calm n k ns → Told (NumberHere n k ns) ((meant n k ns).value x)
+  calm_number n k ns c = record { leaves = c.leaves; gives = weaker_gives (λ v f. f.number) c.gives }
+
+  outside_told : (P : Value → Type 0) → Told P outside
+  outside_told P = record { leaves = λ old. outside_leaves old; gives = outside_gives }
+
+  -- a name of which something is known
+  name_effects : (n : Node) (name : List ℕ) (ctxt : ℕ) (optional : Bool) (ns : List SteadyNode)
+      → Readable name (own_here n (kind.Ident name ctxt optional) ns) → effects_here n (kind.Ident name ctxt optional) ns ≡ false
   unfolding effects_by pure_callee_by
-  name_effects n name ctxt optional ns (inl named) =
-      unsafe_none (ctxt == ctx.unresolved_ctxt) (bytes_eq name (codes "Date")) ctx.is_unresolved_ref_safe (is_safe_name name)
-      (false_names_safe name (both_true (ctxt == ctx.unresolved_ctxt) (is_false_name name) named).1)
-  name_effects n name ctxt optional ns (inr pure) = none_of (effects_here ctx x n (kind.Ident name ctxt optional) ns) pure
+  name_effects n name ctxt optional ns (inl safe) = unsafe_none (ctxt == ctx.unresolved_ctxt) (bytes_eq name (codes "Date")) ctx.is_unresolved_ref_safe (is_safe_name name) safe
+  name_effects n name ctxt optional ns (inr pure) = none_of (effects_here n (kind.Ident name ctxt optional) ns) pure
 
-  layer_steady : (n : Node) (k : Kind) (ns : List (SteadyNode ctx x)) → is_taken_by ctx x.known.declared k (map (is_taken ctx x.known.declared) (nodes ctx x ns)) ≡ true → is_valued_by k (map marks (nodes ctx x ns)) ≡ true → is_steady_by k (map marks (nodes ctx x ns)) ≡ true
-      → (old : State) → (effects_here ctx x n k ns ≡ false → Leaves old ((meaning_by n k (meanings ctx x ns)).value x))
-      → (truth_by ctx (purity_of (effects_here ctx x n k ns)) k n (judgements ctx x ns)).0 ≡ Pure → Leaves old ((meaning_by n k (meanings ctx x ns)).value x)
-  unfolding truth_by effects_by access_effects_by part_effects_by pure_callee_by
-  layer_steady n (kind.Ident name ctxt optional) ns t v d old quiet is =
-      quiet (name_effects n name ctxt optional ns (name_purity (ctxt == ctx.unresolved_ctxt && is_false_name name) (purity_of (effects_here ctx x n (kind.Ident name ctxt optional) ns)) is))
-  layer_steady n kind.ParenExpr (e ∷ []) t v d old quiet is = e.1.at (both_true (is_taken ctx x.known.declared e.0) true t).0 v d is old
-  layer_steady n (kind.UnaryExpr op) (e ∷ []) t v d old quiet is = unary_steady op n e (both_true (is_taken ctx x.known.declared e.0) true t).0 v d old quiet is
-  layer_steady n (kind.BinExpr op) (l ∷ r ∷ []) t v d old quiet is =
-      let a = both_true (is_taken ctx x.known.declared l.0) (is_taken ctx x.known.declared r.0 && true) t in
-      let b = both_true (is_spoken_of op) (is_valued l.0 && is_valued r.0) v in
-      let c = both_true (is_no_difference op) (is_steady l.0 && is_steady r.0) d in
-      binary_steady op n l r (a.0, (both_true (is_taken ctx x.known.declared r.0) true a.1).0) (both_true (is_valued l.0) (is_valued r.0) b.1) (both_true (is_steady l.0) (is_steady r.0) c.1) c.0 old quiet is
-  layer_steady n kind.ParenExpr ns t v d old quiet is = outside_leaves old
-  layer_steady n (kind.UnaryExpr op) ns t v d old quiet is = outside_leaves old
-  layer_steady n (kind.BinExpr op) ns t v d old quiet is = outside_leaves old
-  layer_steady n (kind.AssignExpr operation.Assign) ns t v d old quiet is = absurd (cc)
-  layer_steady n (kind.Str value raw) ns t v d old quiet is = quiet refl
-  layer_steady n (kind.Bool value) ns t v d old quiet is = quiet refl
-  layer_steady n kind.Null ns t v d old quiet is = quiet refl
-  layer_steady n (kind.Number value raw) ns t v d old quiet is = quiet refl
-  layer_steady n (kind.BigInt value raw) ns t v d old quiet is = quiet refl
-  layer_steady n (kind.Regex exp flags) ns t v d old quiet is = quiet refl
-  layer_steady n k ns t v d old quiet is = quiet (none_of (effects_here ctx x n k ns) is)
+  -- ---- truths
 
-  steady_roll : (parts : Node-F Node) (ns : List (SteadyNode ctx x)) → nodes ctx x ns ≡ parts.children → Steady ctx x (roll-Node parts)
-  steady_roll parts ns is =
-      let n = roll-Node parts in
-      let e : meaning n ≡ meaning_by n parts.kind (meanings ctx x ns) = meaning-roll parts ∙ ap (λ l. meaning_by n parts.kind (map meaning l)) (sym is) in
-      let shape : out-Node n ≡ parts = out-roll-Node parts in
-      let effects : (judged ctx n).effects ≡ effects_here ctx x n parts.kind ns = effects-roll ctx parts ∙ ap (λ l. not (pure_callee_by ctx parts.kind n) && effects_by ctx parts.kind n (map (judged ctx) l)) (sym is) in
-      let truth : (judged ctx n).truth ≡ truth_by ctx (purity_of (effects_here ctx x n parts.kind ns)) parts.kind n (judgements ctx x ns) =
-      truth-out ctx n ∙ ap (λ (z : Node-F Node). truth_by ctx (purity_of (judged ctx n).effects) z.kind n (map (judged ctx) z.children)) shape
-      ∙ ap (λ l. truth_by ctx (purity_of (judged ctx n).effects) parts.kind n (map (judged ctx) l)) (sym is) ∙ ap (λ b. truth_by ctx (purity_of b) parts.kind n (judgements ctx x ns)) effects in
+  -- behind a left side whose truth is known, or before a right side that is pure
+  module _ (j l : Judged) (right : Meaning) where
+    or_rest : (v : Value) (b : Bool) → truth_of v ≡ b → AsTruth j v → (j.truth.1 ≡ Known true) ⊎ (l.truth.0 ≡ Pure) → (l.truth.0 ≡ Pure → Told (AsTruth l) (right.value x))
+        → Told (λ w. HasTruth (or_truth j.truth l.truth).1 w × HasType (common_type j.type l.type) w) (binary_rest binary.LogicalOr (Some b) v right x)
+    or_rest v true is h either hr =
+        record { leaves = λ old. give_leaves old v; gives = give_gives v (or_left j.truth.0 l.truth.0 j.truth.1 l.truth.1 v h.0 is, common_left j.type l.type v h.1) }
+    or_rest v false is h (inr pure) hr =
+        let r = hr pure in record {
+          leaves = r.leaves;
+          gives = weaker_gives (λ w g. (or_right j.truth.0 l.truth.0 j.truth.1 l.truth.1 v w h.0 is g.0, common_right j.type l.type w g.1)) r.gives;
+        }
+    or_rest v false is h (inl known) hr = absurd (apart_from (truth_of v) (subst (λ z. HasTruth z v) known h.0) is)
+
+    and_rest : (v : Value) (b : Bool) → truth_of v ≡ b → AsTruth j v → (j.truth.1 ≡ Known false) ⊎ (l.truth.0 ≡ Pure) → (l.truth.0 ≡ Pure → Told (AsTruth l) (right.value x))
+        → Told (λ w. HasTruth (and_truth j.truth l.truth).1 w × HasType (common_type j.type l.type) w) (binary_rest binary.LogicalAnd (Some (not b)) v right x)
+    and_rest v false is h either hr =
+        record { leaves = λ old. give_leaves old v; gives = give_gives v (and_left j.truth.0 l.truth.0 j.truth.1 l.truth.1 v h.0 is, common_left j.type l.type v h.1) }
+    and_rest v true is h (inr pure) hr =
+        let r = hr pure in record {
+          leaves = r.leaves;
+          gives = weaker_gives (λ w g. (and_right j.truth.0 l.truth.0 j.truth.1 l.truth.1 v w h.0 is g.0, common_right j.type l.type w g.1)) r.gives;
+        }
+    and_rest v true is h (inl known) hr = absurd (apart_from (truth_of v) is (subst (λ z. HasTruth z v) known h.0))
+
+  binary_truth : (op : BinaryOp) (n : Node) (l r : SteadyNode) → (is_taken ctx x.known.declared l.0 ≡ true) × (is_taken ctx x.known.declared r.0 ≡ true)
+      → IfCalm n (kind.BinExpr op) (l ∷ r ∷ []) → (truth_by ctx (own_here n (kind.BinExpr op) (l ∷ r ∷ [])) (kind.BinExpr op) n (judged ctx l.0 ∷ judged ctx r.0 ∷ [])).0 ≡ Pure
+      → Told (TruthHere n (kind.BinExpr op) (l ∷ r ∷ [])) ((meant n (kind.BinExpr op) (l ∷ r ∷ [])).value x)
+  unfolding truth_by type_by
+  binary_truth binary.LogicalOr n l r t calm is =
+      let p = or_pure (judged ctx l.0).truth.0 (judged ctx r.0).truth.0 (judged ctx l.0).truth.1 (judged ctx r.0).truth.1 is in
+      let h = l.1.truth t.0 p.0 in
+      let rest = λ (u : Value) (g : AsTruth (judged ctx l.0) u). or_rest (judged ctx l.0) (judged ctx r.0) (meaning r.0) u (truth_of u) refl g p.1 (λ pure. r.1.truth t.1 pure) in
+      record { leaves = λ old. bind_by old (leaves_giving old (h.leaves old) h.gives) (λ u g. (rest u g).leaves old); gives = bind_gives h.gives (λ u g. (rest u g).gives) }
+  binary_truth binary.LogicalAnd n l r t calm is =
+      let p = and_pure (judged ctx l.0).truth.0 (judged ctx r.0).truth.0 (judged ctx l.0).truth.1 (judged ctx r.0).truth.1 is in
+      let h = l.1.truth t.0 p.0 in
+      let rest = λ (u : Value) (g : AsTruth (judged ctx l.0) u). and_rest (judged ctx l.0) (judged ctx r.0) (meaning r.0) u (truth_of u) refl g p.1 (λ pure. r.1.truth t.1 pure) in
+      record { leaves = λ old. bind_by old (leaves_giving old (h.leaves old) h.gives) (λ u g. (rest u g).leaves old); gives = bind_gives h.gives (λ u g. (rest u g).gives) }
+  binary_truth binary.Sub n l r t calm is =
+      let p = both_pure (judged ctx l.0).number.0 (judged ctx r.0).number.0 is in
+      let h = l.1.number t.0 p.0 in
+      let g = r.1.number t.1 p.1 in
       record {
-        at = λ taken told calm pure old. subst (λ m. Leaves old (m.value x)) (sym e)
-            (layer_steady n parts.kind ns
-            (subst (λ l. is_taken_by ctx x.known.declared parts.kind (map (is_taken ctx x.known.declared) l) ≡ true) (sym is) (sym (taken-roll ctx x parts) ∙ taken))
-            (subst (λ l. is_valued_by parts.kind (map marks l) ≡ true) (sym is) (sym (ap (λ (m : Marks). m.valued) (marks-roll parts)) ∙ told))
-            (subst (λ l. is_steady_by parts.kind (map marks l) ≡ true) (sym is) (sym (ap (λ (m : Marks). m.steady) (marks-roll parts)) ∙ calm))
-            old (λ none. subst (λ m. Leaves old (m.value x)) e (((claim ctx off x n).quiet (effects ∙ none) taken).value old x.scope))
-            (sym (ap (λ (z : Purity × KnownOr Bool). z.0) truth) ∙ pure));
+        leaves = λ old. bind_leaves old (h.leaves old) (λ u. bind_leaves old (g.leaves old) (λ w. applied_leaves old binary.Sub u w));
+        gives = bind_gives h.gives (λ v hv. bind_gives g.gives (λ w hw. numbers_by (TruthHere n (kind.BinExpr binary.Sub) (l ∷ r ∷ [])) difference_of (number_from v) (number_from w)
+            (λ a b c pa qb e. (difference_fits (judged ctx l.0).number.1 (judged ctx r.0).number.1 v w hv hw a b c pa qb e, refl))));
       }
+  binary_truth binary.Div n l r t calm is =
+      let p = both_pure (judged ctx l.0).number.0 (judged ctx r.0).number.0 is in
+      let h = l.1.number t.0 p.0 in
+      let g = r.1.number t.1 p.1 in
+      let k = if is_pure (judged ctx l.0).number.0 then (judged ctx l.0).number.1 else Unknown in
+      let m = if is_pure (judged ctx r.0).number.0 then (judged ctx r.0).number.1 else Unknown in
+      record {
+        leaves = λ old. bind_leaves old (h.leaves old) (λ u. bind_leaves old (g.leaves old) (λ w. applied_leaves old binary.Div u w));
+        gives = bind_gives h.gives (λ v hv. bind_gives g.gives (λ w hw. numbers_by (TruthHere n (kind.BinExpr binary.Div) (l ∷ r ∷ [])) quotient_of (number_from v) (number_from w)
+            (λ a b c pa qb e. (quotient_fits k m v w (pure_number (judged ctx l.0).number.0 (judged ctx l.0).number.1 v hv) (pure_number (judged ctx r.0).number.0 (judged ctx r.0).number.1 w hw) a b c pa qb e, refl))));
+      }
+  binary_truth binary.BitAnd n l r t calm is =
+      let j = judged ctx l.0 in
+      let m = judged ctx r.0 in
+      let p = both_pure j.truth.0 m.truth.0 is in
+      let h = l.1.truth t.0 p.0 in
+      let g = r.1.truth t.1 p.1 in
+      record {
+        leaves = λ old. bind_leaves old (h.leaves old) (λ u. bind_leaves old (g.leaves old) (λ w. applied_leaves old binary.BitAnd u w));
+        gives = bind_gives h.gives (λ v hv. bind_gives g.gives (λ w hw. numbers_by (TruthHere n (kind.BinExpr binary.BitAnd) (l ∷ r ∷ [])) (total (bitwise bit_and)) (number_from v) (number_from w)
+            (λ a b c pa qb e. (and_fits_bits j.type m.type j.truth.1 m.truth.1 v w hv.1 hw.1 hv.0 hw.0 a b c pa qb e, refl))));
+      }
+  binary_truth binary.BitOr n l r t calm is =
+      let j = judged ctx l.0 in
+      let m = judged ctx r.0 in
+      let p = both_pure j.truth.0 m.truth.0 is in
+      let h = l.1.truth t.0 p.0 in
+      let g = r.1.truth t.1 p.1 in
+      record {
+        leaves = λ old. bind_leaves old (h.leaves old) (λ u. bind_leaves old (g.leaves old) (λ w. applied_leaves old binary.BitOr u w));
+        gives = bind_gives h.gives (λ v hv. bind_gives g.gives (λ w hw. numbers_by (TruthHere n (kind.BinExpr binary.BitOr) (l ∷ r ∷ [])) (total (bitwise bit_or)) (number_from v) (number_from w)
+            (λ a b c pa qb e. (or_fits_bits j.type m.type j.truth.1 m.truth.1 v w hv.1 hw.1 hv.0 hw.0 a b c pa qb e, refl))));
+      }
+  binary_truth op n l r t calm is = calm_truth n (kind.BinExpr op) (l ∷ r ∷ []) (calm (none_of (effects_here n (kind.BinExpr op) (l ∷ r ∷ [])) is))
+
+  unary_truth : (op : UnaryOp) (n : Node) (e : SteadyNode) → is_taken ctx x.known.declared e.0 ≡ true
+      → IfCalm n (kind.UnaryExpr op) (e ∷ []) → (truth_by ctx (own_here n (kind.UnaryExpr op) (e ∷ [])) (kind.UnaryExpr op) n (judged ctx e.0 ∷ [])).0 ≡ Pure
+      → Told (TruthHere n (kind.UnaryExpr op) (e ∷ [])) ((meant n (kind.UnaryExpr op) (e ∷ [])).value x)
+  unfolding truth_by type_by
+  unary_truth operator.Bang n e t calm is =
+      let h = e.1.truth t is in record {
+        leaves = λ old. bind_leaves old (h.leaves old) (λ u. given_leaves old (unary_value operator.Bang u));
+        gives = bind_gives h.gives (λ v hv. give_gives (Truth (not (truth_of v))) (not_truth (judged ctx e.0).truth.1 v hv.0, refl));
+      }
+  unary_truth op n e t calm is = calm_truth n (kind.UnaryExpr op) (e ∷ []) (calm (none_of (effects_here n (kind.UnaryExpr op) (e ∷ [])) is))
+
+  layer_truth : (n : Node) (k : Kind) (ns : List SteadyNode) → is_taken_by ctx x.known.declared k (takens ns) ≡ true → IfCalm n k ns
+      → (truth_by ctx (own_here n k ns) k n (judgements ns)).0 ≡ Pure → Told (TruthHere n k ns) ((meant n k ns).value x)
+  unfolding truth_by type_by effects_by access_effects_by part_effects_by pure_callee_by
+  layer_truth n (kind.Ident name ctxt optional) ns t calm is =
+      calm_truth n (kind.Ident name ctxt optional) ns (calm (name_effects n name ctxt optional ns
+      (truth_readable (ctxt == ctx.unresolved_ctxt) name (own_here n (kind.Ident name ctxt optional) ns) (ctxt == ctx.unresolved_ctxt && is_false_name name) refl is)))
+  layer_truth n kind.ParenExpr (e ∷ []) t calm is =
+      let h = e.1.truth (both_true (is_taken ctx x.known.declared e.0) true t).0 is in record { leaves = h.leaves; gives = weaker_gives (λ v g. (g.0, tt)) h.gives }
+  layer_truth n (kind.UnaryExpr op) (e ∷ []) t calm is = unary_truth op n e (both_true (is_taken ctx x.known.declared e.0) true t).0 calm is
+  layer_truth n (kind.BinExpr op) (l ∷ r ∷ []) t calm is =
+      let a = both_true (is_taken ctx x.known.declared l.0) (is_taken ctx x.known.declared r.0 && true) t in
+      binary_truth op n l r (a.0, (both_true (is_taken ctx x.known.declared r.0) true a.1).0) calm is
+  layer_truth n kind.ParenExpr ns t calm is = outside_told _
+  layer_truth n (kind.UnaryExpr op) ns t calm is = outside_told _
+  layer_truth n (kind.BinExpr op) ns t calm is = outside_told _
+  layer_truth n (kind.AssignExpr operation.Assign) ns t calm is = absurd (cc)
+  layer_truth n (kind.Str value raw) ns t calm is = calm_truth n (kind.Str value raw) ns (calm refl)
+  layer_truth n (kind.Bool value) ns t calm is = calm_truth n (kind.Bool value) ns (calm refl)
+  layer_truth n kind.Null ns t calm is = calm_truth n kind.Null ns (calm refl)
+  layer_truth n (kind.Number value raw) ns t calm is = calm_truth n (kind.Number value raw) ns (calm refl)
+  layer_truth n (kind.BigInt value raw) ns t calm is = calm_truth n (kind.BigInt value raw) ns (calm refl)
+  layer_truth n (kind.Regex exp flags) ns t calm is = calm_truth n (kind.Regex exp flags) ns (calm refl)
+  layer_truth n k ns t calm is = calm_truth n k ns (calm (none_of (effects_here n k ns) is))
+
+  -- ---- Numbers
+
+  -- an array whose elements leave all as they were
+  array_leaves : (old : State) (elements : Meaning) → Leaves old (elements.elements x) → Leaves old (elements.elements x >>= λ es. new_array es >>= λ o. give (Own o))
+  array_leaves old elements h = bind_leaves old h (λ es. bind_leaves old (new_array_leaves old es) (λ o. give_leaves old (Own o)))
+
+  array_told : (n : Node) (e : SteadyNode) → is_taken ctx x.known.declared e.0 ≡ true → IfCalm n kind.ArrayLit (e ∷ []) → (text : KnownOr (List ℕ)) → (judged ctx e.0).text ≡ text
+      → (array_number (own_here n kind.ArrayLit (e ∷ [])) text).0 ≡ Pure
+      → Told (λ v. HasNumber (array_number (own_here n kind.ArrayLit (e ∷ [])) text).1 v) ((meant n kind.ArrayLit (e ∷ [])).value x)
+  array_told n e t calm (Known text) known is = record {
+    leaves = λ old. array_leaves old (meaning e.0) (e.1.text t text known old).1;
+    gives = then_gives ((meaning e.0).elements x) (λ es. then_gives (new_array es) (λ o. give_gives (Own o) (array_has_number (own_here n kind.ArrayLit (e ∷ [])) (Known text) o)));
+  }
+  array_told n e t calm Unknown known is = record { leaves = (calm (none_of (effects_here n kind.ArrayLit (e ∷ [])) is)).leaves; gives = any_gives (λ v. tt) }
+
+  unary_number : (op : UnaryOp) (n : Node) (e : SteadyNode) → (out-Node n).children ≡ e.0 ∷ [] → is_taken ctx x.known.declared e.0 ≡ true
+      → IfCalm n (kind.UnaryExpr op) (e ∷ []) → (number_by ctx (own_here n (kind.UnaryExpr op) (e ∷ [])) (kind.UnaryExpr op) n (judged ctx e.0 ∷ [])).0 ≡ Pure
+      → Told (NumberHere n (kind.UnaryExpr op) (e ∷ [])) ((meant n (kind.UnaryExpr op) (e ∷ [])).value x)
+  unfolding number_by effects_by pure_callee_by
+  unary_number operator.Minus n e shape t calm is =
+      let passes = minus_pure (passes_at (is_infinity ctx) 0 n) is in
+      calm_number n (kind.UnaryExpr operator.Minus) (e ∷ []) (calm (infinity_none ctx e.0 (subst (λ (z : List Node). option_map_or (is_infinity ctx) (slice_get z 0) false ≡ true) shape passes)))
+  unary_number operator.Bang n e shape t calm is =
+      let j = judged ctx e.0 in
+      let h = e.1.truth t (bang_pure j.truth.0 j.truth.1 is) in record {
+        leaves = λ old. bind_leaves old (h.leaves old) (λ u. given_leaves old (unary_value operator.Bang u));
+        gives = bind_gives h.gives (λ v hv. give_gives (Truth (not (truth_of v))) (not_has_number (if is_pure j.truth.0 then j.truth.1 else Unknown) v (pure_truth j.truth.0 j.truth.1 v hv.0)));
+      }
+  unary_number operator.Void n e shape t calm is = calm_number n (kind.UnaryExpr operator.Void) (e ∷ []) (calm (none_of (effects_here n (kind.UnaryExpr operator.Void) (e ∷ [])) is))
+  unary_number op n e shape t calm is = absurd (cc)
+
+  layer_number : (n : Node) (k : Kind) (ns : List SteadyNode) → (out-Node n).children ≡ nodes ns → is_taken_by ctx x.known.declared k (takens ns) ≡ true → IfCalm n k ns
+      → (number_by ctx (own_here n k ns) k n (judgements ns)).0 ≡ Pure → Told (NumberHere n k ns) ((meant n k ns).value x)
+  unfolding number_by effects_by pure_callee_by
+  layer_number n (kind.Ident name ctxt optional) ns shape t calm is =
+      calm_number n (kind.Ident name ctxt optional) ns (calm (name_effects n name ctxt optional ns
+      (number_readable (ctxt == ctx.unresolved_ctxt) name (own_here n (kind.Ident name ctxt optional) ns) (ctxt == ctx.unresolved_ctxt && is_false_name name) (ctxt == ctx.unresolved_ctxt && bytes_eq name (codes "Infinity")) refl refl is)))
+  layer_number n (kind.Bool value) ns shape t calm is = calm_number n (kind.Bool value) ns (calm refl)
+  layer_number n kind.Null ns shape t calm is = calm_number n kind.Null ns (calm refl)
+  layer_number n (kind.Number value raw) ns shape t calm is = calm_number n (kind.Number value raw) ns (calm refl)
+  layer_number n (kind.Str value raw) ns shape t calm is = calm_number n (kind.Str value raw) ns (calm refl)
+  layer_number n (kind.BigInt value raw) ns shape t calm is = calm_number n (kind.BigInt value raw) ns (calm refl)
+  layer_number n (kind.Regex exp flags) ns shape t calm is = calm_number n (kind.Regex exp flags) ns (calm refl)
+  layer_number n kind.ArrayLit (e ∷ []) shape t calm is = array_told n e (both_true (is_taken ctx x.known.declared e.0) true t).0 calm (judged ctx e.0).text refl is
+  layer_number n kind.ArrayLit ns shape t calm is = outside_told _
+  layer_number n (kind.UnaryExpr op) (e ∷ []) shape t calm is = unary_number op n e shape (both_true (is_taken ctx x.known.declared e.0) true t).0 calm is
+  layer_number n (kind.UnaryExpr op) ns shape t calm is = outside_told _
+  layer_number n k ns shape t calm is = absurd (cc)
+
+  -- ---- texts
+
+  abbrev TextHere : Node → Kind → List SteadyNode → Type 0
+  TextHere n k ns = (old : State) → Leaves old ((meant n k ns).value x) × Leaves old ((meant n k ns).elements x)
+
+  calm_text : (n : Node) (k : Kind) (ns : List SteadyNode) → Calm n k ns → TextHere n k ns
+  calm_text n k ns c old = (c.leaves old, c.elements old)
+
+  as_element : (old : State) (m : Run Value) → Leaves old m → Leaves old (m >>= λ v. give (Some v ∷ []))
+  as_element old m h = bind_leaves old h (λ v. give_leaves old (Some v ∷ []))
+
+  unary_text : (op : UnaryOp) (n : Node) (e : SteadyNode) → is_taken ctx x.known.declared e.0 ≡ true → IfCalm n (kind.UnaryExpr op) (e ∷ []) → (t : List ℕ)
+      → text_by ctx (own_here n (kind.UnaryExpr op) (e ∷ [])) (kind.UnaryExpr op) (judged ctx e.0 ∷ []) ≡ Known t → TextHere n (kind.UnaryExpr op) (e ∷ [])
+  unfolding text_by
+  unary_text operator.Bang n e taken calm t is old =
+      let h = (e.1.truth taken (bang_text_pure (judged ctx e.0).truth.0 (judged ctx e.0).truth.1 t is)).leaves old in
+      let value = bind_leaves old h (λ u. given_leaves old (unary_value operator.Bang u)) in
+      (value, as_element old _ value)
+  unary_text operator.Void n e taken calm t is old =
+      let own = own_here n (kind.UnaryExpr operator.Void) (e ∷ []) in
+      calm_text n (kind.UnaryExpr operator.Void) (e ∷ []) (calm (none_of (effects_here n (kind.UnaryExpr operator.Void) (e ∷ [])) (void_pure own t is))) old
+  unary_text op n e taken calm t is old = absurd (cc)
+
+  list_leaves : (old : State) (front : List ℕ) (ns : List SteadyNode) → list_all (λ b. b) (takens ns) ≡ true → (t : List ℕ) → joined_behind front (judgements ns) ≡ Known t → Leaves old (all_elements (meanings ns) x)
+  list_leaves old front [] taken t is = give_leaves old []
+  list_leaves old front (n ∷ ns) taken t is =
+      let p = both_true (is_taken ctx x.known.declared n.0) (list_all (λ b. b) (takens ns)) taken in
+      let f = followed_known (followed_by (Known front) (judged ctx n.0).element) (joined_behind (44 ∷ []) (judgements ns)) t is in
+      let g = followed_known (Known front) (judged ctx n.0).element f.0.0 f.0.1 in
+      bind_leaves old (n.1.element p.0 g.1.0 g.1.1 old) (λ vs. bind_leaves old (list_leaves old (44 ∷ []) ns p.1 f.1.0 f.1.1) (λ ws. give_leaves old (vs ++ ws)))
+
+  layer_text : (n : Node) (k : Kind) (ns : List SteadyNode) → is_taken_by ctx x.known.declared k (takens ns) ≡ true → IfCalm n k ns → (t : List ℕ)
+      → text_by ctx (own_here n k ns) k (judgements ns) ≡ Known t → TextHere n k ns
+  unfolding text_by effects_by pure_callee_by
+  layer_text n (kind.Str value raw) ns taken calm t is old = calm_text n (kind.Str value raw) ns (calm refl) old
+  layer_text n (kind.Number value raw) ns taken calm t is old = calm_text n (kind.Number value raw) ns (calm refl) old
+  layer_text n (kind.Bool value) ns taken calm t is old = calm_text n (kind.Bool value) ns (calm refl) old
+  layer_text n kind.Null ns taken calm t is old = calm_text n kind.Null ns (calm refl) old
+  layer_text n (kind.Ident name ctxt optional) ns taken calm t is old =
+      calm_text n (kind.Ident name ctxt optional) ns (calm (name_effects n name ctxt optional ns
+      (text_readable (ctxt == ctx.unresolved_ctxt) name t (own_here n (kind.Ident name ctxt optional) ns) (ctxt == ctx.unresolved_ctxt && is_text_name name) refl is))) old
+  layer_text n (kind.UnaryExpr op) (e ∷ []) taken calm t is old = unary_text op n e (both_true (is_taken ctx x.known.declared e.0) true taken).0 calm t is old
+  layer_text n (kind.UnaryExpr op) ns taken calm t is old = (outside_leaves old, as_element old outside (outside_leaves old))
+  layer_text n kind.ArrayLit (e ∷ []) taken calm t is old =
+      let value = array_leaves old (meaning e.0) (e.1.text (both_true (is_taken ctx x.known.declared e.0) true taken).0 t is old).1 in (value, as_element old _ value)
+  layer_text n kind.ArrayLit ns taken calm t is old = (outside_leaves old, as_element old outside (outside_leaves old))
+  layer_text n kind.List ns taken calm t is old = (outside_leaves old, list_leaves old [] ns taken t is)
+  layer_text n k ns taken calm t is old = absurd (cc)
+
+  -- ---- elements of arrays
+
+  nothing_unary : (op : UnaryOp) (n : Node) (ns : List SteadyNode) → IfCalm n (kind.UnaryExpr op) ns → is_nothing_by ctx (own_here n (kind.UnaryExpr op) ns) (kind.UnaryExpr op) ≡ true
+      → (old : State) → Leaves old ((meant n (kind.UnaryExpr op) ns).elements x)
+  unfolding is_nothing_by
+  nothing_unary operator.Void n ns calm is old =
+      (calm (none_of (effects_here n (kind.UnaryExpr operator.Void) ns) (is_pure_of (own_here n (kind.UnaryExpr operator.Void) ns) is))).elements old
+  nothing_unary op n ns calm is old = absurd (cc)
+
+  nothing_leaves : (n : Node) (k : Kind) (ns : List SteadyNode) → IfCalm n k ns → is_nothing_by ctx (own_here n k ns) k ≡ true → (old : State) → Leaves old ((meant n k ns).elements x)
+  unfolding is_nothing_by effects_by access_effects_by part_effects_by pure_callee_by
+  nothing_leaves n kind.Absent ns calm is old = (calm refl).elements old
+  nothing_leaves n kind.Null ns calm is old = (calm refl).elements old
+  nothing_leaves n (kind.Ident name ctxt optional) ns calm is old =
+      (calm (name_effects n name ctxt optional ns (undefined_readable (ctxt == ctx.unresolved_ctxt) name (own_here n (kind.Ident name ctxt optional) ns) is))).elements old
+  nothing_leaves n (kind.UnaryExpr op) ns calm is old = nothing_unary op n ns calm is old
+  nothing_leaves n k ns calm is old = absurd (cc)
+
+  layer_element : (n : Node) (k : Kind) (ns : List SteadyNode) → is_taken_by ctx x.known.declared k (takens ns) ≡ true → IfCalm n k ns → (text : KnownOr (List ℕ)) → text ≡ text_by ctx (own_here n k ns) k (judgements ns) → (t : List ℕ)
+      → (b : Bool) → is_nothing_by ctx (own_here n k ns) k ≡ b → (if b then Known [] else text) ≡ Known t → (old : State) → Leaves old ((meant n k ns).elements x)
+  layer_element n k ns taken calm text same t true e is old = nothing_leaves n k ns calm e old
+  layer_element n k ns taken calm text same t false e is old = (layer_text n k ns taken calm t (sym same ∙ is) old).1
+
+module _ (ctx : ExprCtx) (off : ctx.is_unresolved_ref_safe ≡ false) (x : ExecutionContext) (apart : declares_no_global ctx x.scope ≡ true) where
+  module _ (parts : Node-F Node) (ns : List (SteadyNode ctx x)) (is : nodes ctx x ns ≡ parts.children) where
+    abbrev here : Node
+    here = roll-Node parts
+
+    abbrev own : Purity
+    own = own_here ctx x here parts.kind ns
+
+    same_meaning : meaning here ≡ meant ctx x here parts.kind ns
+    same_meaning = meaning-roll parts ∙ ap (λ l. meaning_by here parts.kind (map meaning l)) (sym is)
+
+    same_effects : (judged ctx here).effects ≡ effects_here ctx x here parts.kind ns
+    same_effects = effects-roll ctx parts ∙ ap (λ l. not (pure_callee_by ctx parts.kind here) && effects_by ctx parts.kind here (map (judged ctx) l)) (sym is)
+
+    -- what the tables say, by the kind and the children
+    by_parts : {A : Type 0} (f : Purity → Kind → List Judged → A) → f (purity_of (judged ctx here).effects) (out-Node here).kind (kids_of ctx here) ≡ f own parts.kind (judgements ctx x ns)
+    by_parts f =
+        ap (λ (z : Node-F Node). f (purity_of (judged ctx here).effects) z.kind (map (judged ctx) z.children)) (out-roll-Node parts)
+        ∙ ap (λ l. f (purity_of (judged ctx here).effects) parts.kind (map (judged ctx) l)) (sym is) ∙ ap (λ b. f (purity_of b) parts.kind (judgements ctx x ns)) same_effects
+
+    same_truth : (judged ctx here).truth ≡ truth_by ctx own parts.kind here (judgements ctx x ns)
+    same_truth = truth-out ctx here ∙ by_parts (λ p k kids. truth_by ctx p k here kids)
+
+    same_number : (judged ctx here).number ≡ number_by ctx own parts.kind here (judgements ctx x ns)
+    same_number = number-out ctx here ∙ by_parts (λ p k kids. number_by ctx p k here kids)
+
+    same_text : (judged ctx here).text ≡ text_by ctx own parts.kind (judgements ctx x ns)
+    same_text = text-out ctx here ∙ by_parts (λ p k kids. text_by ctx p k kids)
+
+    same_type : (judged ctx here).type ≡ type_by ctx parts.kind here (judgements ctx x ns)
+    same_type = type-out ctx here ∙ by_parts (λ p k kids. type_by ctx k here kids)
+
+    same_element : (judged ctx here).element ≡ element_by ctx own parts.kind (judged ctx here).text
+    same_element = element-out ctx here ∙ by_parts (λ p k kids. element_by ctx p k (judged ctx here).text)
+
+    taken_here : is_taken ctx x.known.declared here ≡ true → is_taken_by ctx x.known.declared parts.kind (takens ctx x ns) ≡ true
+    taken_here taken = subst (λ l. is_taken_by ctx x.known.declared parts.kind (map (is_taken ctx x.known.declared) l) ≡ true) (sym is) (sym (taken-roll ctx x parts) ∙ taken)
+
+    fits_here : (v : Value) → IsAsJudged (judged ctx here) v → Fits ctx own here parts.kind (judgements ctx x ns) v
+    fits_here v h = record {
+      truth = subst (λ (t : Purity × KnownOr Bool). HasTruth t.1 v) same_truth h.truth;
+      number = subst (λ (t : Purity × KnownOr JsNumber). HasNumber t.1 v) same_number h.number;
+      text = subst (λ t. HasText t v) same_text h.text;
+      type = subst (λ t. HasType t v) same_type h.type;
+    }
+
+    calm_here : is_taken ctx x.known.declared here ≡ true → IfCalm ctx x here parts.kind ns
+    calm_here taken none =
+        let e = same_effects ∙ none in
+        let c = (claim ctx off x here).quiet e taken in
+        record {
+          leaves = λ old. subst (λ m. Leaves old (m.value x)) same_meaning (c.value old x.scope);
+          elements = λ old. subst (λ m. Leaves old (m.elements x)) same_meaning (c.elements old x.scope);
+          gives = subst (λ m. GivesBy (Fits ctx own here parts.kind (judgements ctx x ns)) (m.value x)) same_meaning
+              (weaker_gives fits_here ((valued ctx false x (λ is. absurd (cc)) apart here).value (idle_valued ctx false x here taken e)));
+        }
+
+    told_here : (P Q : Value → Type 0) → ((v : Value) → P v → Q v) → Told ctx x P ((meant ctx x here parts.kind ns).value x) → Told ctx x Q ((meaning here).value x)
+    told_here P Q f h = record {
+      leaves = λ old. subst (λ m. Leaves old (m.value x)) (sym same_meaning) (h.leaves old);
+      gives = weaker_gives f (subst (λ m. GivesBy P (m.value x)) (sym same_meaning) h.gives);
+    }
+
+    steady_roll : Steady ctx x here
+    steady_roll = record {
+      truth = λ taken pure. told_here (TruthHere ctx x here parts.kind ns) (AsTruth ctx x (judged ctx here))
+          (λ v h. (subst (λ (t : Purity × KnownOr Bool). HasTruth t.1 v) (sym same_truth) h.0, subst (λ t. HasType t v) (sym same_type) h.1))
+          (layer_truth ctx x here parts.kind ns (taken_here taken) (calm_here taken) (sym (ap (λ (t : Purity × KnownOr Bool). t.0) same_truth) ∙ pure));
+      number = λ taken pure. told_here (NumberHere ctx x here parts.kind ns) (HasNumber (judged ctx here).number.1)
+          (λ v h. subst (λ (t : Purity × KnownOr JsNumber). HasNumber t.1 v) (sym same_number) h)
+          (layer_number ctx x here parts.kind ns (ap (λ (z : Node-F Node). z.children) (out-roll-Node parts) ∙ sym is) (taken_here taken) (calm_here taken) (sym (ap (λ (t : Purity × KnownOr JsNumber). t.0) same_number) ∙ pure));
+      text = λ taken t known old.
+          let h = layer_text ctx x here parts.kind ns (taken_here taken) (calm_here taken) t (sym same_text ∙ known) old in
+          (subst (λ m. Leaves old (m.value x)) (sym same_meaning) h.0, subst (λ m. Leaves old (m.elements x)) (sym same_meaning) h.1);
+      element = λ taken t known old. subst (λ m. Leaves old (m.elements x)) (sym same_meaning)
+          (layer_element ctx x here parts.kind ns (taken_here taken) (calm_here taken) (judged ctx here).text same_text t (is_nothing_by ctx own parts.kind) refl (sym same_element ∙ known) old);
+    }
 
   pub steady : (n : Node) → Steady ctx x n
   steady = ind-Node (Steady ctx x) (λ parts y is. steady_roll parts y.children (ap (λ z. z.children) is))

@@ -26,14 +26,14 @@ use Rattle.ecma_runs.specs.Environment.{empty, new_environment, set_all}
 use Rattle.ecma_runs.specs.Functions.{new_prototype, new_function, prototype_entries}
 use Rattle.ecma_runs.specs.Evaluation.{role_by, no_effect, meaning_by, meaning}
 use Rattle.ecma_runs.proofs.Layer.{meaning-roll}
-use Rattle.ecma_judge_runs.specs.Known.{HasTruth, HasNumber, HasText, HasType, IsAsJudged, Marks, marks, marks_by, marks_step, is_valued_by, is_assignable_by, declares_no_global}
+use Rattle.ecma_judge_runs.specs.Known.{HasTruth, HasNumber, HasText, HasType, IsAsJudged, ConstructsObjects, Marks, marks, marks_by, marks_step, is_valued_by, is_assignable_by, declares_no_global}
 use Rattle.ecma_judge_runs.proofs.Giving.{GivesBy, CameFrom, came_from, then_gives, any_gives, weaker_gives, give_gives, outside_gives}
 use Rattle.ecma_judge_runs.proofs.Literals.{Fits}
 use Rattle.ecma_judge_runs.proofs.Assignments.{assigned_passes}
 use Rattle.ecma_judge_runs.proofs.Valuing.{Valued, ValuedNode, nodes, meanings, judgements, all_marks, value_gives}
 
-pub marks-roll : (parts : Node-F Node) → marks (roll-Node parts) ≡ marks_by parts.kind (map marks parts.children)
-marks-roll parts = fold-roll-Node Marks marks_step parts
+pub marks-roll : (objects : Bool) (parts : Node-F Node) → marks objects (roll-Node parts) ≡ marks_by objects parts.kind (map (marks objects) parts.children)
+marks-roll objects parts = fold-roll-Node Marks (marks_step objects) parts
 
 -- what is told by the node's kind and children is what is judged of it
 judged_fits : (ctx : ExprCtx) (n : Node) (v : Value) → Fits ctx (purity_of (judged ctx n).effects) n (out-Node n).kind (kids_of ctx n) v → IsAsJudged (judged ctx n) v
@@ -44,7 +44,7 @@ judged_fits ctx n v h = record {
   type = subst (λ t. HasType t v) (sym (type-out ctx n)) h.type;
 }
 
-module _ (ctx : ExprCtx) (x : ExecutionContext) (apart : declares_no_global ctx x.scope ≡ true) where
+module _ (ctx : ExprCtx) (objects : Bool) (x : ExecutionContext) (known : objects ≡ true → ConstructsObjects x) (apart : declares_no_global ctx x.scope ≡ true) where
   -- a class that is made is true
 
   either_class : (b : Bool) (m k : Meaning) (names : List Id) → GivesBy (λ v. truth_of v ≡ true) (m.class_made names x) → GivesBy (λ v. truth_of v ≡ true) (k.class_made names x)
@@ -68,7 +68,7 @@ module _ (ctx : ExprCtx) (x : ExecutionContext) (apart : declares_no_global ctx 
       then_gives (new_environment (map (empty true) names) None) (λ scope. class_in_gives n super body names scope)
   class_gives n _ ms names = outside_gives
 
-  layer_class : (n : Node) (k : Kind) (ns : List (ValuedNode ctx x)) (names : List Id) → GivesBy (λ v. truth_of v ≡ true) ((meaning_by n k (meanings ctx x ns)).class_made names x)
+  layer_class : (n : Node) (k : Kind) (ns : List (ValuedNode ctx objects x)) (names : List Id) → GivesBy (λ v. truth_of v ≡ true) ((meaning_by n k (meanings ctx objects x ns)).class_made names x)
   layer_class n kind.ParenExpr (e ∷ []) names = e.1.class names
   layer_class n kind.TsAsExpr (e ∷ type ∷ []) names = e.1.class names
   layer_class n kind.TsTypeAssertion (e ∷ type ∷ []) names = e.1.class names
@@ -81,7 +81,7 @@ module _ (ctx : ExprCtx) (x : ExecutionContext) (apart : declares_no_global ctx 
   layer_class n kind.TsTypeParamInstantiation ns names = outside_gives
   layer_class n kind.TsQualifiedName (left ∷ right ∷ []) names = outside_gives
   layer_class n (kind.TsImportEqualsDecl false false) (name ∷ source ∷ []) names = outside_gives
-  layer_class n k ns names = either_class (has_no_effect k (meanings ctx x ns)) (no_effect n) (role_by n k (meanings ctx x ns)) names outside_gives (class_gives n k (meanings ctx x ns) names)
+  layer_class n k ns names = either_class (has_no_effect k (meanings ctx objects x ns)) (no_effect n) (role_by n k (meanings ctx objects x ns)) names outside_gives (class_gives n k (meanings ctx objects x ns) names)
 
   -- what is assigned is given
 
@@ -89,7 +89,7 @@ module _ (ctx : ExprCtx) (x : ExecutionContext) (apart : declares_no_global ctx 
   either_assigned true m k P get hm hk = hm
   either_assigned false m k P get hm hk = hk
 
-  layer_assigned : (n : Node) (k : Kind) (ns : List (ValuedNode ctx x)) → is_assignable_by k (all_marks ctx x ns) ≡ true → (get : Run Value) → GivesBy (CameFrom get) ((meaning_by n k (meanings ctx x ns)).assigned get x)
+  layer_assigned : (n : Node) (k : Kind) (ns : List (ValuedNode ctx objects x)) → is_assignable_by k (all_marks ctx objects x ns) ≡ true → (get : Run Value) → GivesBy (CameFrom get) ((meaning_by n k (meanings ctx objects x ns)).assigned get x)
   layer_assigned n kind.ParenExpr (e ∷ []) is get = e.1.assigned is get
   layer_assigned n kind.TsAsExpr (e ∷ type ∷ []) is get = e.1.assigned is get
   layer_assigned n kind.TsTypeAssertion (e ∷ type ∷ []) is get = e.1.assigned is get
@@ -105,8 +105,8 @@ module _ (ctx : ExprCtx) (x : ExecutionContext) (apart : declares_no_global ctx 
       assigned_passes x n (kind.VarDecl Const false)
       (role_by n kind.List (role_by n (kind.VarDeclarator false) (role_by n kind.BindingIdent (meaning name.0 ∷ role_by n kind.Absent [] ∷ []) ∷ meaning source.0 ∷ []) ∷ []) ∷ []) [] refl (CameFrom get) get (came_from get)
   layer_assigned n k ns is get =
-      either_assigned (has_no_effect k (meanings ctx x ns)) (no_effect n) (role_by n k (meanings ctx x ns)) (CameFrom get) get
-      (assigned_passes x n (kind.TsTypeAliasDecl false) [] [] refl (CameFrom get) get (came_from get)) (assigned_passes x n k (meanings ctx x ns) (all_marks ctx x ns) is (CameFrom get) get (came_from get))
+      either_assigned (has_no_effect k (meanings ctx objects x ns)) (no_effect n) (role_by n k (meanings ctx objects x ns)) (CameFrom get) get
+      (assigned_passes x n (kind.TsTypeAliasDecl false) [] [] refl (CameFrom get) get (came_from get)) (assigned_passes x n k (meanings ctx objects x ns) (all_marks ctx objects x ns) is (CameFrom get) get (came_from get))
 
   -- a node from its children
 
@@ -115,8 +115,8 @@ module _ (ctx : ExprCtx) (x : ExecutionContext) (apart : declares_no_global ctx 
     either_value true P m k hm hk = hm
     either_value false P m k hm hk = hk
 
-    layer_value : (n : Node) (k : Kind) (ns : List (ValuedNode ctx x)) → (out-Node n).children ≡ nodes ctx x ns → is_valued_by k (all_marks ctx x ns) ≡ true
-        → GivesBy (Fits ctx own n k (judgements ctx x ns)) ((meaning_by n k (meanings ctx x ns)).value x)
+    layer_value : (n : Node) (k : Kind) (ns : List (ValuedNode ctx objects x)) → (out-Node n).children ≡ nodes ctx objects x ns → is_valued_by objects k (all_marks ctx objects x ns) ≡ true
+        → GivesBy (Fits ctx own n k (judgements ctx objects x ns)) ((meaning_by n k (meanings ctx objects x ns)).value x)
     unfolding truth_by number_by text_by type_by
     layer_value n kind.ParenExpr (e ∷ []) shape is = weaker_gives (λ v h. record { truth = h.truth; number = tt; text = tt; type = tt }) (e.1.value is)
     layer_value n kind.TsAsExpr (e ∷ type ∷ []) shape is = any_gives (λ v. record { truth = tt; number = tt; text = tt; type = tt })
@@ -130,28 +130,28 @@ module _ (ctx : ExprCtx) (x : ExecutionContext) (apart : declares_no_global ctx 
     layer_value n kind.TsTypeParamInstantiation ns shape is = outside_gives
     layer_value n kind.TsQualifiedName (left ∷ right ∷ []) shape is = any_gives (λ v. record { truth = tt; number = tt; text = tt; type = tt })
     layer_value n (kind.TsImportEqualsDecl false false) (name ∷ source ∷ []) shape is = any_gives (λ v. record { truth = tt; number = tt; text = tt; type = tt })
-    layer_value n k ns shape is = either_value (has_no_effect k (meanings ctx x ns)) (Fits ctx own n k (judgements ctx x ns)) (no_effect n) (role_by n k (meanings ctx x ns)) outside_gives (value_gives ctx x apart own n k ns shape is)
+    layer_value n k ns shape is = either_value (has_no_effect k (meanings ctx objects x ns)) (Fits ctx own n k (judgements ctx objects x ns)) (no_effect n) (role_by n k (meanings ctx objects x ns)) outside_gives (value_gives ctx objects x known apart own n k ns shape is)
 
   -- all nodes
 
-  valued_roll : (parts : Node-F Node) (ns : List (ValuedNode ctx x)) → nodes ctx x ns ≡ parts.children → Valued ctx x (roll-Node parts)
+  valued_roll : (parts : Node-F Node) (ns : List (ValuedNode ctx objects x)) → nodes ctx objects x ns ≡ parts.children → Valued ctx objects x (roll-Node parts)
   valued_roll parts ns is =
-      let e : meaning (roll-Node parts) ≡ meaning_by (roll-Node parts) parts.kind (meanings ctx x ns) = meaning-roll parts ∙ ap (λ l. meaning_by (roll-Node parts) parts.kind (map meaning l)) (sym is) in
-      let shape : (out-Node (roll-Node parts)).children ≡ nodes ctx x ns = ap (λ (z : Node-F Node). z.children) (out-roll-Node parts) ∙ sym is in
+      let e : meaning (roll-Node parts) ≡ meaning_by (roll-Node parts) parts.kind (meanings ctx objects x ns) = meaning-roll parts ∙ ap (λ l. meaning_by (roll-Node parts) parts.kind (map meaning l)) (sym is) in
+      let shape : (out-Node (roll-Node parts)).children ≡ nodes ctx objects x ns = ap (λ (z : Node-F Node). z.children) (out-roll-Node parts) ∙ sym is in
       let own = purity_of (judged ctx (roll-Node parts)).effects in
       record {
         value = λ valued. weaker_gives
             (λ v h. judged_fits ctx (roll-Node parts) v
             (subst (λ (z : Node-F Node). Fits ctx own (roll-Node parts) z.kind (map (judged ctx) z.children) v) (sym (out-roll-Node parts))
             (subst (λ l. Fits ctx own (roll-Node parts) parts.kind (map (judged ctx) l) v) is h)))
-            (subst (λ m. GivesBy (Fits ctx own (roll-Node parts) parts.kind (judgements ctx x ns)) (m.value x)) (sym e)
+            (subst (λ m. GivesBy (Fits ctx own (roll-Node parts) parts.kind (judgements ctx objects x ns)) (m.value x)) (sym e)
             (layer_value own (roll-Node parts) parts.kind ns shape
-            (subst (λ l. is_valued_by parts.kind (map marks l) ≡ true) (sym is) (sym (ap (λ (m : Marks). m.valued) (marks-roll parts)) ∙ valued))));
+            (subst (λ l. is_valued_by objects parts.kind (map (marks objects) l) ≡ true) (sym is) (sym (ap (λ (m : Marks). m.valued) (marks-roll objects parts)) ∙ valued))));
         assigned = λ assignable get. subst (λ m. GivesBy (CameFrom get) (m.assigned get x)) (sym e)
             (layer_assigned (roll-Node parts) parts.kind ns
-            (subst (λ l. is_assignable_by parts.kind (map marks l) ≡ true) (sym is) (sym (ap (λ (m : Marks). m.assignable) (marks-roll parts)) ∙ assignable)) get);
+            (subst (λ l. is_assignable_by parts.kind (map (marks objects) l) ≡ true) (sym is) (sym (ap (λ (m : Marks). m.assignable) (marks-roll objects parts)) ∙ assignable)) get);
         class = λ names. subst (λ m. GivesBy (λ v. truth_of v ≡ true) (m.class_made names x)) (sym e) (layer_class (roll-Node parts) parts.kind ns names);
       }
 
-  pub valued : (n : Node) → Valued ctx x n
-  valued = ind-Node (Valued ctx x) (λ parts y is. valued_roll parts y.children (ap (λ z. z.children) is))
+  pub valued : (n : Node) → Valued ctx objects x n
+  valued = ind-Node (Valued ctx objects x) (λ parts y is. valued_roll parts y.children (ap (λ z. z.children) is))

@@ -6,7 +6,7 @@ use Rattle.ecma_kind.specs.declared.kind.Kind.TheVariants as kind
 use Rattle.ecma_judge.specs.declared.ctx.ExprCtx.{ExprCtx}
 use Rattle.ecma_runs.specs.Values.{Value}
 use Rattle.ecma_runs.specs.State.{Id, Entered}
-use Rattle.ecma_runs.specs.Run.{Run, ◌>>=◌}
+use Rattle.ecma_runs.specs.Run.{◌>>=◌}
 use Rattle.ecma_runs.specs.Meaning.{Evaluation, Meaning}
 use Rattle.ecma_runs.specs.Functions.{callee_by, call}
 

@@ -8,15 +8,15 @@ use Rattle.ecma_number.specs.declared.value.Value.{Value as KnownOr}
 use Rattle.ecma_number.specs.declared.value.Value.TheVariants.{Known, Unknown}
 use Rattle.ecma_kind.specs.declared.kind.Kind.{Kind}
 use Rattle.ecma_kind.specs.declared.kind.Kind.TheVariants as kind
-use Rattle.ecma_kind.specs.declared.operators.BinaryOp.{BinaryOp}
-use Rattle.ecma_kind.specs.declared.operators.BinaryOp.TheVariants as binary
 use Rattle.ecma_kind.specs.declared.operators.UnaryOp.{UnaryOp}
 use Rattle.ecma_kind.specs.declared.operators.UnaryOp.TheVariants as operator
 use Rattle.ecma_tree.specs.declared.node.Node.{Node, Node-F, fold-Node}
 use Rattle.ecma_judge.specs.declared.ctx.ExprCtx.{ExprCtx}
 use Rattle.ecma_judge.specs.Judgement.{Judged}
 use Rattle.ecma_runs.specs.Values.{Value, Undefined, Null, Truth, Number, Text, Own, Host, Error, truth_of}
-use Rattle.ecma_runs.specs.State.{Id, Entered}
+use Rattle.ecma_runs.specs.State.{Id, Entered, State}
+use Rattle.ecma_runs.specs.Run.{Done}
+use Rattle.ecma_runs.specs.Meaning.{AsConstruct, ExecutionContext}
 use Rattle.ecma_runs.specs.Operators.{number_from, text_from}
 
 -- ---- of a value
@@ -61,16 +61,11 @@ pub record IsAsJudged (j : Judged) (v : Value) : Type 0 where
 
 -- ---- of expressions
 
--- but for `typeof` and `delete`, of which the same is told whatever the operand is
+-- but for `-` and `!` the same is told whatever the operand is
 abbrev pub is_told_of : UnaryOp → Bool → Bool
-is_told_of operator.TypeOf operand = true
-is_told_of operator.Delete operand = true
-is_told_of op operand = operand
-
--- but for `/`, whose arithmetic these laws leave out
-abbrev pub is_spoken_of : BinaryOp → Bool
-is_spoken_of binary.Div = false
-is_spoken_of op = true
+is_told_of operator.Minus operand = operand
+is_told_of operator.Bang operand = operand
+is_told_of op operand = true
 
 -- what is known of a node
 pub record Marks : Type 0 where
@@ -78,25 +73,22 @@ pub record Marks : Type 0 where
   pub valued : Bool
   -- as a target it has no default
   pub assignable : Bool
-  -- nor is a difference among what its truth is told from
-  pub steady : Bool
 
 -- the last of several, if there is one
 abbrev pub last_or : Bool → List Marks → Bool
 last_or b [] = b
 last_or b (m ∷ ms) = last_or m.valued ms
 
--- by what its children are, of those from which something is told: no construction and no member
-abbrev pub is_valued_by : Kind → List Marks → Bool
-is_valued_by kind.NewExpr children = false
-is_valued_by kind.MemberExpr children = false
-is_valued_by (kind.AssignExpr op) (target ∷ right ∷ rest) = target.assignable && right.valued
-is_valued_by kind.ParenExpr (e ∷ rest) = e.valued
-is_valued_by (kind.UnaryExpr op) (operand ∷ rest) = is_told_of op operand.valued
-is_valued_by (kind.BinExpr op) (left ∷ right ∷ rest) = is_spoken_of op && (left.valued && right.valued)
-is_valued_by kind.CondExpr (test ∷ yes' ∷ no' ∷ rest) = yes'.valued && no'.valued
-is_valued_by kind.SeqExpr children = last_or true children
-is_valued_by k children = true
+-- by what its children are, of those from which something is told; `objects` says whether constructions are known to give objects
+abbrev pub is_valued_by : Bool → Kind → List Marks → Bool
+is_valued_by objects kind.NewExpr children = objects
+is_valued_by objects (kind.AssignExpr op) (target ∷ right ∷ rest) = target.assignable && right.valued
+is_valued_by objects kind.ParenExpr (e ∷ rest) = e.valued
+is_valued_by objects (kind.UnaryExpr op) (operand ∷ rest) = is_told_of op operand.valued
+is_valued_by objects (kind.BinExpr op) (left ∷ right ∷ rest) = left.valued && right.valued
+is_valued_by objects kind.CondExpr (test ∷ yes' ∷ no' ∷ rest) = yes'.valued && no'.valued
+is_valued_by objects kind.SeqExpr children = last_or true children
+is_valued_by objects k children = true
 
 abbrev pub is_assignable_by : Kind → List Marks → Bool
 is_assignable_by kind.AssignPat children = false
@@ -109,33 +101,23 @@ is_assignable_by kind.TsInstantiation (e ∷ rest) = e.assignable
 is_assignable_by kind.TsSatisfiesExpr (e ∷ rest) = e.assignable
 is_assignable_by k children = true
 
-abbrev pub is_no_difference : BinaryOp → Bool
-is_no_difference binary.Sub = false
-is_no_difference binary.Div = false
-is_no_difference op = true
+abbrev pub marks_by : Bool → Kind → List Marks → Marks
+marks_by objects k children = record { valued = is_valued_by objects k children; assignable = is_assignable_by k children }
 
-abbrev pub is_steady_by : Kind → List Marks → Bool
-is_steady_by kind.ParenExpr (e ∷ rest) = e.steady
-is_steady_by (kind.UnaryExpr op) (operand ∷ rest) = operand.steady
-is_steady_by (kind.BinExpr op) (left ∷ right ∷ rest) = is_no_difference op && (left.steady && right.steady)
-is_steady_by k children = true
+abbrev pub marks_step : Bool → Node-F Marks → Marks
+marks_step objects parts = marks_by objects parts.kind parts.children
 
-abbrev pub marks_by : Kind → List Marks → Marks
-marks_by k children = record { valued = is_valued_by k children; assignable = is_assignable_by k children; steady = is_steady_by k children }
+abbrev pub marks : Bool → Node → Marks
+marks objects = fold-Node Marks (marks_step objects)
 
-abbrev pub marks_step : Node-F Marks → Marks
-marks_step parts = marks_by parts.kind parts.children
+-- what is known of it is told from no construction, unless these are known to give objects, and no target of an assignment has a default
+abbrev pub is_valued : Bool → Node → Bool
+is_valued objects n = (marks objects n).valued
 
-abbrev pub marks : Node → Marks
-marks = fold-Node Marks marks_step
-
--- what is known of it is told from no construction, member and quotient, and no target of an assignment has a default
-abbrev pub is_valued : Node → Bool
-is_valued n = (marks n).valued
-
--- and its truth is told from no difference
-abbrev pub is_steady : Node → Bool
-is_steady n = (marks n).steady
+-- what constructions give in a context are objects
+abbrev pub ConstructsObjects : ExecutionContext → Type 0
+ConstructsObjects x =
+    (place new_target : ℕ) (arguments : List Value) (s t : State) (v : Value) → x.functions.invoke place (AsConstruct new_target) arguments s ≡ Done v t → is_of_type js_type.Obj v ≡ true
 
 -- no scope around declares a name with the context of what is not resolved
 abbrev pub declares_no_global : ExprCtx → List Entered → Bool

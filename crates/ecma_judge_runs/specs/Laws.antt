@@ -1,6 +1,8 @@
 -- What is judged of expressions is so when they run.
-use Rattle.std.specs.Prelude.{◌≡◌, List, true, false, IsTrue}
+use Rattle.std.specs.Prelude.{◌≡◌, ℕ, Bool, List, [], ◌∷◌, true, false, IsTrue}
 use Rattle.ecma_number.specs.declared.types.Purity.TheVariants.{Pure}
+use Rattle.ecma_number.specs.declared.value.Value.TheVariants.{Known}
+use Rattle.ecma_kind.specs.declared.kind.Kind.TheVariants as kind
 use Rattle.ecma_tree.specs.declared.node.Node.{Node, out-Node}
 use Rattle.ecma_judge.specs.declared.ctx.ExprCtx.{ExprCtx}
 use Rattle.ecma_judge.specs.Judged.{judged}
@@ -13,7 +15,7 @@ use Rattle.ecma_runs.specs.Laws.{state_behind}
 use Rattle.ecma_judge_runs.specs.Still.{Still}
 use Rattle.ecma_judge_runs.specs.Taken.{is_taken}
 use Rattle.ecma_judge_runs.specs.Called.{is_function_expression, declares_no_loose, called}
-use Rattle.ecma_judge_runs.specs.Known.{IsAsJudged, is_valued, is_steady, declares_no_global}
+use Rattle.ecma_judge_runs.specs.Known.{IsAsJudged, ConstructsObjects, is_valued, declares_no_global}
 
 -- where a name that no scope declares may not be read wherever it stands, an expression that is said to have no effects leaves all as it was, however it comes out: with a value, with what is thrown, or with what is open
 abbrev pub WhatHasNoEffectsIsStill : Type 0
@@ -33,14 +35,39 @@ CallsOfPureCalleesAreStill =
     (ctx : ExprCtx) (e : Node) (x : ExecutionContext) (arguments : List Value) (s : State) → IsTrue (declares_no_loose ctx x.scope) → is_function_expression (out-Node e).kind ≡ false →
     (judged ctx e).pure_callee ≡ true → Still s (state_behind (called (meaning e) arguments x s))
 
+-- and so does such an expression itself, as a member that is read
+abbrev pub PureCalleesAreStill : Type 0
+PureCalleesAreStill =
+    (ctx : ExprCtx) (e : Node) (x : ExecutionContext) (s : State) → IsTrue (declares_no_loose ctx x.scope) → is_function_expression (out-Node e).kind ≡ false → (judged ctx e).pure_callee ≡ true →
+    Still s (state_behind ((meaning e).value x s))
+
+-- and so does a call of such an expression where it stands, on arguments, where the call is said to have no effects
+abbrev pub PureCallsAreStill : Type 0
+PureCallsAreStill =
+    (ctx : ExprCtx) (e callee arguments types : Node) (x : ExecutionContext) (s : State) → ctx.is_unresolved_ref_safe ≡ false → IsTrue (declares_no_loose ctx x.scope) → (out-Node e).kind ≡ kind.CallExpr →
+    (out-Node e).children ≡ callee ∷ arguments ∷ types ∷ [] → is_function_expression (out-Node callee).kind ≡ false → IsTrue (is_taken ctx x.known.declared arguments) → (judged ctx e).effects ≡ false →
+    Still s (state_behind ((meaning e).value x s))
+
 -- a value that an expression gives is as the expression is judged: the truth, the Number, the text and the type that are known are its own
 abbrev pub WhatIsKnownIsSo : Type 0
 WhatIsKnownIsSo =
-    (ctx : ExprCtx) (e : Node) (x : ExecutionContext) (s t : State) (v : Value) → IsTrue (declares_no_global ctx x.scope) → IsTrue (is_valued e) → (meaning e).value x s ≡ Done v t →
+    (ctx : ExprCtx) (objects : Bool) (e : Node) (x : ExecutionContext) (s t : State) (v : Value) → (objects ≡ true → ConstructsObjects x) → IsTrue (declares_no_global ctx x.scope) → IsTrue (is_valued objects e) → (meaning e).value x s ≡ Done v t →
     IsAsJudged (judged ctx e) v
 
 -- what tells whether an expression counts as true leaves all as it was, where it is said to be pure, known or not, and however it comes out
 abbrev pub WhatIsPureIsStill : Type 0
 WhatIsPureIsStill =
-    (ctx : ExprCtx) (e : Node) (x : ExecutionContext) (s : State) → ctx.is_unresolved_ref_safe ≡ false → IsTrue (declares_no_global ctx x.scope) → IsTrue (is_taken ctx x.known.declared e) → IsTrue (is_valued e) → IsTrue (is_steady e) →
+    (ctx : ExprCtx) (e : Node) (x : ExecutionContext) (s : State) → ctx.is_unresolved_ref_safe ≡ false → IsTrue (declares_no_global ctx x.scope) → IsTrue (is_taken ctx x.known.declared e) →
     (judged ctx e).truth.0 ≡ Pure → Still s (state_behind ((meaning e).value x s))
+
+-- and so does what tells its Number
+abbrev pub WhatIsAPureNumberIsStill : Type 0
+WhatIsAPureNumberIsStill =
+    (ctx : ExprCtx) (e : Node) (x : ExecutionContext) (s : State) → ctx.is_unresolved_ref_safe ≡ false → IsTrue (declares_no_global ctx x.scope) → IsTrue (is_taken ctx x.known.declared e) →
+    (judged ctx e).number.0 ≡ Pure → Still s (state_behind ((meaning e).value x s))
+
+-- and an expression whose text is known
+abbrev pub WhatHasAKnownTextIsStill : Type 0
+WhatHasAKnownTextIsStill =
+    (ctx : ExprCtx) (e : Node) (x : ExecutionContext) (text : List ℕ) (s : State) → ctx.is_unresolved_ref_safe ≡ false → IsTrue (declares_no_global ctx x.scope) → IsTrue (is_taken ctx x.known.declared e) →
+    (judged ctx e).text ≡ Known text → Still s (state_behind ((meaning e).value x s))

@@ -3,7 +3,7 @@
 //! Each function carries one law, and does nothing. The laws are stated in `specs/Laws.antt`.
 #![tactic(auto)]
 
-ghost use Rattle.ecma_judge_runs.specs.Laws.{CallsOfPureCalleesAreStill, ClassesWithoutEffectsAreStill, WhatHasNoEffectsIsStill, WhatIsKnownIsSo, WhatIsPureIsStill};
+ghost use Rattle.ecma_judge_runs.specs.Laws.{CallsOfPureCalleesAreStill, ClassesWithoutEffectsAreStill, PureCalleesAreStill, PureCallsAreStill, WhatHasAKnownTextIsStill, WhatHasNoEffectsIsStill, WhatIsAPureNumberIsStill, WhatIsKnownIsSo, WhatIsPureIsStill};
 
 /// An expression that is said to have no effects changes nothing when it is evaluated: no variable, no object, and nothing that the host sees; however it comes
 /// out. It may make objects and environment records. Asked is that its names are told, and that it has no member, call or optional chain outside of functions.
@@ -24,13 +24,34 @@ pub fn calls_of_pure_callees_are_still()
 {}
 
 /// A value that an expression gives is as the expression is judged. Asked is that no scope around declares a name with the context of what is not resolved, that
-/// no target of an assignment has a default, and that what is known is told from no construction, member or quotient.
+/// no target of an assignment has a default, and that what is known is told from no construction, unless what the functions of the program construct are objects.
 pub fn what_is_known_is_so()
     ensures { WhatIsKnownIsSo }
 {}
 
 /// Where the purity of an expression's truth is that of what is pure, the evaluation changes nothing, even where an operand that is left out has effects, as in
-/// `true || f()`. Asked is what the two laws on effects and on values ask, and that its truth is told from no difference.
+/// `true || f()`. Asked is what the law on effects asks, and that no scope around declares a name with the context of what is not resolved.
 pub fn what_is_pure_is_still()
     ensures { WhatIsPureIsStill }
+{}
+
+/// So it is where the purity of its Number is that of what is pure, as of `[!(true || f())]`.
+pub fn what_is_a_pure_number_is_still()
+    ensures { WhatIsAPureNumberIsStill }
+{}
+
+/// And where its text is known.
+pub fn what_has_a_known_text_is_still()
+    ensures { WhatHasAKnownTextIsStill }
+{}
+
+/// Nor does such a callee itself, as the members `Math.max` and `"a".trim` that are read.
+pub fn pure_callees_are_still()
+    ensures { PureCalleesAreStill }
+{}
+
+/// A call of such a callee where it stands, as `Math.max(a, b)`, changes nothing where it is said to have no effects. Asked is what the law on effects asks of its
+/// arguments, and what that on calls asks of the scopes around.
+pub fn pure_calls_are_still()
+    ensures { PureCallsAreStill }
 {}
