@@ -6,7 +6,7 @@
 // node-typescript, or the one that the variable TYPESCRIPT names. What TypeScript or acorn does not read is passed over, but counted where
 // the program reads it. With --blanked import and export assignments, enums and namespaces that do not go with the types, the modifiers of
 // parameters and decorators are blanks first, so that all else of such files is compared. Each run of the program ends after N seconds (60), and so does TypeScript. What was
-// written is converted once more, and is to stay. A run that is ended by a signal tells what it has counted so far.
+// written is converted once more, with `--verbatim`, and is to stay. A run that is ended by a signal tells what it has counted so far.
 import { spawnSync } from "node:child_process";
 import { readFileSync } from "node:fs";
 import { isMainThread, parentPort, Worker } from "node:worker_threads";
@@ -32,8 +32,8 @@ const compilerOptions = {
 };
 
 /** What the program makes of a module, or why there is nothing. */
-function converted(bytes) {
-  const run = spawnSync("bash", ["-c", 'ulimit -s unlimited; exec "$0"', program], { input: bytes, maxBuffer: 2 ** 30, timeout: seconds * 1000, killSignal: "SIGKILL" });
+function converted(bytes, ...options) {
+  const run = spawnSync("bash", ["-c", 'ulimit -s unlimited; exec "$0" "$@"', program, ...options], { input: bytes, maxBuffer: 2 ** 30, timeout: seconds * 1000, killSignal: "SIGKILL" });
   if (run.status === 0) return { text: run.stdout };
   if (run.error?.code === "ETIMEDOUT") return { failure: `no answer in ${seconds} seconds` };
   if (run.error && run.error.code !== "EPIPE") return { failure: run.error.code ?? run.error.message };
@@ -191,7 +191,8 @@ async function judge(file, bytes, text) {
   }
   count("same");
   counts["bytes of the same"] = (counts["bytes of the same"] ?? 0) + bytes.length;
-  const again = converted(answer.text);
+  // an import that only an ambient declaration uses stays, and would go now
+  const again = converted(answer.text, "--verbatim");
   if (!again.text?.equals(answer.text)) count("not the same when converted again", `${file}: ${again.refusal ?? again.failure ?? ""}`);
 }
 
