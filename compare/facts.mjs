@@ -4,7 +4,7 @@
 // the answers come from node, but for how a run ends that node does not end: where it stands at something open or wants turns,
 // `before` is what node runs, whose events are those of the run, and `ending` says how it ends then. The facts of what is open
 // end as Outside, by default behind `f(1);`. `tree` is the source of the
-// tree, where it has types, and `unfold` names definitions by which the fact computes.
+// tree, where it has types or assignments, `commonJs` says that the module is one of CommonJS, and `unfold` names definitions by which the fact computes.
 import { writeFileSync } from "node:fs";
 import { observe, answerText, actionText, listText, valueText } from "./host.mjs";
 import { itemsOf } from "./trees.mjs";
@@ -14,6 +14,8 @@ const folder = new URL("../crates/ecma_runs/proofs/", import.meta.url);
 
 // f and g are the host's values 7 and 8; the module "m" has a default, a name and itself
 const frees = [["f", { host: 7 }], ["g", { host: 8 }]];
+// in a CommonJS module the functions and objects that node gives it are the host's values 10, 11 and 12
+const commonJsFrees = [...frees, ["require", { host: 10 }], ["exports", { host: 11 }], ["module", { host: 12 }]];
 const imports = [["m", "default", { host: 9 }], ["m", "a", 5]];
 const metaUrl = "file:///m.js";
 const nulls = Array.from({ length: 12 }, () => ["Return", null]);
@@ -42,7 +44,7 @@ const modules = [
       "statement block returns declare_pattern declare parameter function declare_function function_expression arrow modifiers class_method field constructor' class' declare_class meaning_node",
   ],
   ["ecma_runs.proofs.ExportTrees", "exports_node"],
-  ["ecma_runs.proofs.Scripts", "Does nulls"],
+  ["ecma_runs.proofs.Scripts", "Does DoesInCommonJs nulls"],
   ["std.specs.Fmt", "digits"],
   ["std.specs.Str", "chars"],
   ["ecma_number.specs.Arithmetic", "product_of quotient_of remainder_of power_of"],
@@ -73,14 +75,14 @@ for (const { file, title, facts } of topics) {
   let text = "";
   for (const [name, source, options = {}] of facts) {
     const open = file.startsWith("FactsOpen");
-    const { turns = 9, answers, actions = [], tree, unfold } = options;
+    const { turns = 9, answers, actions = [], tree, unfold, commonJs } = options;
     const before = options.before ?? (open && !options.whole ? "f(1);" : undefined);
     const ending = options.ending ?? (open ? "Outside" : undefined);
-    const seen = await observe({ body: before ?? source, answers: answers ?? nulls, actions, frees, imports, metaUrl });
+    const seen = await observe({ body: before ?? source, answers: answers ?? nulls, actions, frees: commonJs ? commonJsFrees : frees, imports, metaUrl });
     const events = seen.events === "[]" ? "[]" : seen.events;
     const items = itemsOf(tree ?? source);
     text += source.trim().split("\n").map((line) => `-- ${line}\n`).join("");
-    text += `${name} :\n    Does ${turns} ${answers ? `(${listText(answers.map(answerText))})` : "nulls"} ${actions.length ? `(${listText(actions.map(actionText))})` : "[]"}\n`;
+    text += `${name} :\n    ${commonJs ? "DoesInCommonJs" : "Does"} ${turns} ${answers ? `(${listText(answers.map(answerText))})` : "nulls"} ${actions.length ? `(${listText(actions.map(actionText))})` : "[]"}\n`;
     text += `    (${[...items, "End"].join("\n    ▸ ")})\n`;
     text += `    ${events} (${ending ? `ending.${ending}` : seen.ending})\n`;
     text += `${unfold ? `unfolding ${unfold}\n` : ""}${name} = simp ${actions.some(([kind]) => kind === "ReadExport") ? "(meaning_node, exports_node)" : "meaning_node"} refl\n\n`;

@@ -229,6 +229,51 @@ export const topics = [
     ],
   },
   {
+    file: "FactsAssignments",
+    title: "Import and export assignments",
+    facts: [
+      ["requires_modules_in_order", `const a = require("m"); f(a); const b = require("n"); g(b);`, {
+        commonJs: true, tree: `const $import_a = $require("m"); f(a); const $import_b = $require("n"); g(b);`, answers: [["Return", { host: 13 }], ["Return", null], ["Return", 5], ["Return", null]],
+      }],
+      ["is_empty_before_its_module_is_required", `f(1); q; const q = require("m");`, { commonJs: true, tree: `f(1); q; const $import_q = $require("m");` }],
+      ["writes_no_required_module", `const q = require("m"); try { q = 1; } catch (e) { f(e); } q.x = 2;`, {
+        commonJs: true, tree: `const $import_q = $require("m"); try { q = 1; } catch (e) { f(e); } q.x = 2;`, answers: [["Return", { host: 13 }], ["Return", null], ["Return", null]],
+      }],
+      ["throws_what_requiring_throws", `f(1); const q = require("m"); f(2);`, { commonJs: true, tree: `f(1); const $import_q = $require("m"); f(2);`, answers: [["Return", null], ["Throw", 3]] }],
+      ["requires_nothing_without_a_function_for_it", `f(1); const q = require("m"); f(2);`, { tree: `f(1); const $import_q = $require("m"); f(2);` }],
+      ["does_not_require_by_a_variable", `const q = require("m"); let b = g; f(q, b);`, { commonJs: true, tree: `const $import_q = $require("m"); let require = g; f(q, require);` }],
+      ["does_not_require_by_a_variable_of_a_function", `function h(b) { const q = require("m"); f(q, b); } h(1);`, { commonJs: true, tree: `function h(require) { const $import_q = $require("m"); f(q, require); } h(1);` }],
+      ["exports_an_alias", `let a = { b: 1 }; export const q = a.b; a.b = 2; f(q);`, {
+        commonJs: true, tree: `let a = { b: 1 }; export const $import_q = a.b; a.b = 2; f(q);`, actions: [["ReadExport", "q"], ["ReadExport", "a"]],
+      }],
+      ["exports_a_member_of_a_required_module", `const a = require("m"); export const q = a.b; f(q);`, {
+        commonJs: true, tree: `const $import_a = $require("m"); export const $import_q = a.b; f(q);`, answers: [["Return", { host: 13 }], ["Return", 5], ["Return", null]], actions: [["ReadExport", "q"]],
+      }],
+      ["exports_no_alias_before_its_item", `f(1); q; export const q = f;`, { tree: `f(1); q; export const $import_q = f;` }],
+      ["sets_a_required_module_as_an_export", `f(1); const q = exports.q = require("m"); f(q);`, {
+        commonJs: true, tree: `f(1); export const $import_q = $require("m"); f(q);`, answers: [["Return", null], ["Return", 5], ["Return", null], ["Return", null]], actions: [["ReadExport", "q"]],
+      }],
+      ["sets_no_export_where_requiring_throws", `const q = exports.q = require("m"); f(q);`, { commonJs: true, tree: `export const $import_q = $require("m"); f(q);`, answers: [["Throw", 3]] }],
+      ["sets_no_export_without_exports", `f(1); const q = exports.q = require("m");`, { tree: `f(1); export const $import_q = $require("m");` }],
+      ["sets_no_variable_as_an_export", `let b = 1; const q = exports.q = require("m"); f(b, q);`, { commonJs: true, tree: `let exports = 1; export const $import_q = $require("m"); f(exports, q);` }],
+      ["sets_what_is_exported_last", `f(1); f(3); module.exports = f(2);`, { commonJs: true, tree: `f(1); $export: f(2); f(3);` }],
+      ["sets_nothing_where_an_item_throws", `f(1); throw 3;`, { commonJs: true, tree: `$export: f(2); f(1); throw 3;` }],
+      ["sets_nothing_where_what_is_exported_throws", `f(1); module.exports = f(2);`, { commonJs: true, tree: `$export: f(2); f(1);`, answers: [["Return", null], ["Throw", 3]] }],
+      ["reads_the_module_before_what_is_exported", `f(1); module.exports = f(2);`, { tree: `$export: f(2); f(1);` }],
+      ["sets_no_variable_of_the_name_module", `let b = 1; f(b); module.exports = b;`, { commonJs: true, tree: `let module = 1; $export: module; f(module);` }],
+      ["exports_a_function_last", `let b = 1; function h(a) { return f(a, b); } b = 2; module.exports = h;`, {
+        commonJs: true, tree: `$export: h; let b = 1; function h(a) { return f(a, b); } b = 2;`, actions: [["Call", 0, undefined, [3]], ["ReadExport", "default"]],
+      }],
+      ["exports_a_function_expression_last", `f(typeof h); module.exports = function h(a) { let b = h; f(a, b === h); };`, {
+        commonJs: true, tree: `$export: (function h(a) { let b = h; f(a, b === h); }); f(typeof c);`, actions: [["Call", 0, undefined, [3]]],
+      }],
+      ["exports_an_object_last", `const a = require("m"); f(a); module.exports = { a, b() { return this.a; } };`, {
+        commonJs: true, tree: `const $import_a = $require("m"); $export: ({ a, b() { return this.a; } }); f(a);`, answers: [["Return", { host: 13 }], ["Return", null], ["Return", null]],
+        actions: [["Get", 0, "a"], ["Get", 0, "b"], ["Call", 1, { handle: 0 }, []]],
+      }],
+    ],
+  },
+  {
     file: "FactsExports",
     title: "Exports",
     facts: [
@@ -370,7 +415,6 @@ export const topics = [
       ["debugger_statements", `f(1); debugger;`],
       ["returns_of_modules", `f(1); return 2;`],
       ["default_exports_of_generators", `f(1); export default function* () {}`, { before: `` }],
-      ["required_modules", `f(1); $import_require.q;`],
       ["enums", `f(1); $enum.E;`],
       ["namespaces", `f(1); $namespace.N;`],
       ["breaks_out_of_nothing", `f(1); $break.x;`],
@@ -619,7 +663,7 @@ export const topics = [
       ["names_in_patterns_outside", `let { a = (x) => 1 } = {}; f(1); x;`, { before: `f(1);` }],
       ["names_of_parameter_properties_outside", `class A { $property; } f(1); x;`],
       ["names_of_namespaces_before_them", `f(1); N; $namespace.N;`],
-      ["names_of_exported_import_equals_before_them", `f(1); q; $exported_import_equals.q;`],
+      ["names_within_what_is_exported_last", `f(1); q; $export: (function () { let q; });`],
       ["names_of_var_in_labelled_statements", `f(a, b, c, d, e); a: { var a; } for (var b in {}) { var c; } for (var d of []) { var e; }`, { before: `f(undefined, undefined, undefined, undefined, undefined);` }],
       ["names_of_var_in_switches", `f(a, b); switch (f(1)) { case 1: var a; default: { var b; } }`, { before: `f(undefined, undefined);` }],
     ],

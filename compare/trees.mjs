@@ -197,17 +197,25 @@ function expression(n) {
   }
 }
 
-/** A dotted name, as it stands behind `import a =`. */
+/** What stands behind `import a =`: a dotted name, or `require("m")`, for which `$require("m")` stands. */
 function dotted(n) {
+  if (n.type === "CallExpression") return tree("kind.TsExternalModuleRef", expression(n.arguments[0]));
   return n.type === "Identifier" ? `ident ${bytes(n.name)}` : tree("kind.TsQualifiedName", dotted(n.object), `key ${bytes(n.property.name)}`);
 }
 
+/** `const $import_a = b.c` stands for `import a = b.c`, and behind `export` for `export import a = b.c`. */
+const importsAs = (n) => n?.type === "VariableDeclaration" && n.declarations[0].id.name?.startsWith("$import_");
+
+function importEquals(n, isExport) {
+  const { id, init } = n.declarations[0];
+  return tree(`kind.TsImportEqualsDecl ${isExport} false`, `ident ${bytes(id.name.slice("$import_".length))}`, dotted(init));
+}
+
 function declaration(n) {
+  if (importsAs(n)) return importEquals(n, false);
   const word = `${words[n.kind]}`;
   if (n.declarations.length === 1) {
     const { id, init } = n.declarations[0];
-    // `const $import_a = b.c` stands for `import a = b.c`
-    if (id.name?.startsWith("$import_")) return tree("kind.TsImportEqualsDecl false false", `ident ${bytes(id.name.slice("$import_".length))}`, dotted(init));
     const value = init ? inner(expression(init)) : "absent";
     if (id.type === "Identifier" && !/^\$(typed_|\d)/.test(id.name)) return `declare ${word} ${bytes(id.name)} ${value}`;
     return `declare_pattern ${word} ${inner(pattern(id))} ${value}`;
@@ -247,8 +255,6 @@ const declarations = {
   $type_namespace: (id) => tree("kind.TsModuleDecl false false", id, tree("kind.TsModuleBlock", list([tree("kind.TsInterfaceDecl false", id)]))),
   $exported_type: (id) => tree("kind.ExportDecl", tree("kind.TsInterfaceDecl false", id)),
   $type_import_equals: (id) => tree("kind.TsImportEqualsDecl false true", id, id),
-  $import_require: (id) => tree("kind.TsImportEqualsDecl false false", id, tree("kind.TsExternalModuleRef", `string ${bytes("m")}`)),
-  $exported_import_equals: (id) => tree("kind.TsImportEqualsDecl true false", id, id),
   $type_named_export: (id) => tree("kind.NamedExport true", list([tree("kind.ExportNamedSpecifier false", id, "absent")]), "absent", "absent"),
   // `export { a };` and `export { q as a };` beside another export of that name
   $export_again: (id) => tree("kind.NamedExport false", list([tree("kind.ExportNamedSpecifier false", id, "absent")]), "absent", "absent"),
@@ -296,11 +302,14 @@ const members = {
   $overloaded: () => tree("kind.Constructor None false", `key ${bytes("constructor")}`, "list End", "absent"),
 };
 
+const unparenthesized = (n) => (n.type === "ParenthesizedExpression" ? n.expression : n);
+
 function statement(n) {
   const e = n.expression;
   if (n.type === "ExpressionStatement" && e.type === "MemberExpression" && e.object.name in declarations) return declarations[e.object.name](`ident ${bytes(e.property.name)}`);
   switch (n.type) {
     case "ExportNamedDeclaration":
+      if (importsAs(n.declaration)) return importEquals(n.declaration, true);
       if (n.declaration) return tree("kind.ExportDecl", statement(n.declaration));
       return tree("kind.NamedExport false", list(n.specifiers.map(exportSpecifier)), n.source ? expression(n.source) : "absent", "absent");
     case "ExportDefaultDeclaration":
@@ -327,8 +336,9 @@ function statement(n) {
     case "ForInStatement": return tree("kind.ForInStmt", head(n.left), expression(n.right), statement(n.body));
     case "SwitchStatement":
       return tree("kind.SwitchStmt", expression(n.discriminant), list(n.cases.map((c) => tree("kind.SwitchCase", c.test ? expression(c.test) : "absent", list(c.consequent.map(statement))))));
-    // what stands for the block of a namespace as a statement
+    // what stands for the block of a namespace as a statement, and for `export = e`
     case "LabeledStatement":
+      if (n.label.name === "$export") return tree("kind.TsExportAssignment", expression(unparenthesized(n.body.expression)));
       if (n.label.name === "$block") return tree("kind.TsModuleBlock", list(n.body.body.map(statement)));
       return tree("kind.LabeledStmt", `ident ${bytes(n.label.name)}`, statement(n.body));
     case "BreakStatement": return tree("kind.BreakStmt", label(n.label));

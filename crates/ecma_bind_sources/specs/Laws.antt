@@ -1,6 +1,7 @@
 -- What is read as a module, and the source of a module that is written, with bound names.
 use Rattle.std.specs.Prelude.{◌≡◌, None}
 use Rattle.ecma_tree.specs.declared.node.Node.{Node}
+use Rattle.ecma_config.specs.declared.config.TsImportExportAssignConfig.{TsImportExportAssignConfig}
 use Rattle.ecma_forms.specs.Forms.{first_unlowered, first_untaken}
 use Rattle.ecma_plain.specs.Read.{IsRead}
 use Rattle.ecma_bind.specs.Binding.{with_bound_names}
@@ -10,9 +11,9 @@ use Rattle.ecma_sources.specs.Sources.{IsSource}
 abbrev pub BoundTreesAreRead : Type 0
 BoundTreesAreRead = (tree : Node) → IsRead tree → IsRead (with_bound_names tree)
 
--- and where each of its forms is taken, each is then
+-- and where each of its forms is taken, whatever the option on assignments is, each is then
 abbrev pub BoundTreesAreTaken : Type 0
-BoundTreesAreTaken = (tree : Node) → first_untaken tree ≡ None → first_untaken (with_bound_names tree) ≡ None
+BoundTreesAreTaken = (assign : TsImportExportAssignConfig) (tree : Node) → first_untaken assign tree ≡ None → first_untaken assign (with_bound_names tree) ≡ None
 
 -- and where none of them has to be lowered first by another pass, none has then
 abbrev pub BoundTreesNeedNoLowering : Type 0

@@ -1,4 +1,4 @@
--- Where nothing of a tree has to be lowered, nothing of what is left of it has.
+-- Where no node of a tree is of some forms, but of what goes with the types, no node of what is left of it is.
 use Rattle.std.proofs.Common.{◌≡◌, ◌∙◌, ℕ, Bool, true, false, ◌&&◌, ◌||◌, not, Option, Some, None, refl, sym, ap, ap₂, slice_get}
 use Rattle.ecma_kind.specs.declared.kind.Kind.{Kind}
 use Rattle.ecma_kind.specs.declared.kind.Kind.TheVariants as kind
@@ -8,38 +8,14 @@ use Rattle.ecma_rules.specs.Children.{child_holds, holds_of, kind_of}
 use Rattle.ecma_rules.specs.Failing.{failing_here, first_failing}
 use Rattle.ecma_rules.specs.Members.{has_body}
 use Rattle.ecma_fits.proofs.Walks.{not_failing}
-use Rattle.ecma_forms.specs.Forms.{first_unlowered, gone_inside, goes_from_list, is_ambient_variable, is_odd_by, is_unlowered, is_unlowered_kind, names_this, unlowered_here}
+use Rattle.ecma_scope_fits.proofs.Moved.{Blind}
+use Rattle.ecma_forms.specs.Forms.{asked_here, gone_inside, goes_from_list, is_ambient_variable, is_odd_by, names_this}
 use Rattle.ecma_strip.specs.Staying.{is_this_ident, stays}
 use Rattle.ecma_elide_fits.specs.Dropping.{Dropping, loses_in}
 use Rattle.ecma_elide_fits.proofs.Dropped.{below, induct, loses_at}
 use Rattle.ecma_elide_sources.proofs.Staying.{stays_before}
 use Rattle.ecma_elide_sources.proofs.Thin.{Thin, bare, child_before, child_same, closed_kept, closed_other, has_same, holds_same, list_blind, thin_before, thin_kind, thin_same}
 use Rattle.ecma_elide_sources.proofs.Walking.{parts_none, whole_none}
-
-abbrev walk : Node → Bool → Option ℕ
-walk = first_failing Bool unlowered_here gone_inside
-
-abbrev Lowered : Node → Type 0
-Lowered n = first_unlowered n ≡ None
-
--- what goes is not asked, nor is what it holds
-abbrev Gone : Node → Type 0
-Gone n = walk n true ≡ None
-
-all_gone : (n : Node) → Gone n
-all_gone = induct Gone (λ n gone. whole_none Bool unlowered_here gone_inside n true refl gone)
-
--- what does not go is asked
-down : (n : Node) → Lowered n → (i : ℕ) (c : Node) → slice_get (below n) i ≡ Some c → goes_from_list n i ≡ false → Lowered c
-down n h i c at asked = sym (ap (walk c) asked) ∙ (parts_none Bool unlowered_here gone_inside n false h).1 i c at
-
--- a node of another form, whose children are lowered where they do not go
-lowered_of : (n : Node) → is_unlowered n ≡ false → ((i : ℕ) (c : Node) → slice_get (below n) i ≡ Some c → goes_from_list n i ≡ false → Lowered c) → Lowered n
-lowered_of n none children = whole_none Bool unlowered_here gone_inside n false (ap (λ z. failing_here z n) none) (λ i c at. by i c at (goes_from_list n i) refl)
-  where
-    by : (i : ℕ) (c : Node) → slice_get (below n) i ≡ Some c → (b : Bool) → goes_from_list n i ≡ b → walk c (goes_from_list n i) ≡ None
-    by i c at true e = ap (walk c) e ∙ all_gone c
-    by i c at false e = ap (walk c) e ∙ children i c at e
 
 -- an item goes where it does not stay
 goes_where : (list : Bool) (o : Option Node) (c : Node) → o ≡ Some c → (list && holds_of (λ item. not (stays item)) o) ≡ (list && not (stays c))
@@ -82,21 +58,55 @@ module _ {S : Type 0} (d : Dropping S) where
   odd_same kind.ExportNamespaceSpecifier a b e t = this_same a b t (ap is_list e)
   odd_same _ a b e t = refl
 
-  unlowered_same : (a b : Node) → Thin d a b → is_unlowered a ≡ is_unlowered b
-  unlowered_same a b t =
-      ap₂ (λ x y. x || y) (thin_same d is_unlowered_kind (λ text x y optional. refl) a b t) (ap (λ k. is_odd_by k a) (thin_kind d a b t) ∙ odd_same (kind_of b) a b refl t)
+-- whatever kinds are asked for
+module _ (kinds : Kind → Bool) where
+  abbrev is_of_form : Node → Bool
+  is_of_form n = kinds (kind_of n) || is_odd_by (kind_of n) n
 
-  abbrev Kept : Node → Type 0
-  Kept b = Lowered b → (a : Node) → Thin d a b → Lowered a
+  abbrev here : Bool → Node → Option ℕ
+  here = asked_here is_of_form
 
-  node_kept : (b : Node) → ((i : ℕ) (c : Node) → slice_get (below b) i ≡ Some c → Kept c) → Kept b
-  node_kept b kept h a t =
-      lowered_of a (unlowered_same a b t ∙ not_failing (is_unlowered b) b (parts_none Bool unlowered_here gone_inside b false h).0)
-      (λ j c at asked. (
-      let m = child_before d a b t j c at in
-      let stood : (is_list (kind_of b) && not (stays c)) ≡ false = sym (goes_is a j c at ∙ ap (λ l. l && not (stays c)) (thin_same d is_list list_blind a b t)) ∙ asked in
-      let asked_before : goes_from_list b m.0 ≡ false = goes_is b m.0 m.1 m.2 ∙ none_goes (is_list (kind_of b)) (stays m.1) (stays c) (stays_before d c m.1 m.3) stood in
-      kept m.0 m.1 m.2 (down b h m.0 m.1 m.2 asked_before) c m.3))
+  abbrev walk : Node → Bool → Option ℕ
+  walk = first_failing Bool here gone_inside
 
-  pub lowered_then : (a b : Node) → Thin d a b → Lowered b → Lowered a
-  lowered_then a b t h = induct Kept node_kept b h a t
+  abbrev pub NoneOfForm : Node → Type 0
+  NoneOfForm n = walk n false ≡ None
+
+  -- what goes is not asked, nor is what it holds
+  abbrev Gone : Node → Type 0
+  Gone n = walk n true ≡ None
+
+  all_gone : (n : Node) → Gone n
+  all_gone = induct Gone (λ n gone. whole_none Bool here gone_inside n true refl gone)
+
+  -- what does not go is asked
+  down : (n : Node) → NoneOfForm n → (i : ℕ) (c : Node) → slice_get (below n) i ≡ Some c → goes_from_list n i ≡ false → NoneOfForm c
+  down n h i c at asked = sym (ap (walk c) asked) ∙ (parts_none Bool here gone_inside n false h).1 i c at
+
+  -- a node of another form, whose children are where they do not go
+  none_of : (n : Node) → is_of_form n ≡ false → ((i : ℕ) (c : Node) → slice_get (below n) i ≡ Some c → goes_from_list n i ≡ false → NoneOfForm c) → NoneOfForm n
+  none_of n none children = whole_none Bool here gone_inside n false (ap (λ z. failing_here z n) none) (λ i c at. by i c at (goes_from_list n i) refl)
+    where
+      by : (i : ℕ) (c : Node) → slice_get (below n) i ≡ Some c → (b : Bool) → goes_from_list n i ≡ b → walk c (goes_from_list n i) ≡ None
+      by i c at true e = ap (walk c) e ∙ all_gone c
+      by i c at false e = ap (walk c) e ∙ children i c at e
+
+  -- where contexts do not matter to them
+  module _ (blind : Blind Bool kinds) {S : Type 0} (d : Dropping S) where
+    form_same : (a b : Node) → Thin d a b → is_of_form a ≡ is_of_form b
+    form_same a b t = ap₂ (λ x y. x || y) (thin_same d kinds blind a b t) (ap (λ k. is_odd_by k a) (thin_kind d a b t) ∙ odd_same d (kind_of b) a b refl t)
+
+    abbrev Kept : Node → Type 0
+    Kept b = NoneOfForm b → (a : Node) → Thin d a b → NoneOfForm a
+
+    node_kept : (b : Node) → ((i : ℕ) (c : Node) → slice_get (below b) i ≡ Some c → Kept c) → Kept b
+    node_kept b kept h a t =
+        none_of a (form_same a b t ∙ not_failing (is_of_form b) b (parts_none Bool here gone_inside b false h).0)
+        (λ j c at asked. (
+        let m = child_before d a b t j c at in
+        let stood : (is_list (kind_of b) && not (stays c)) ≡ false = sym (goes_is a j c at ∙ ap (λ l. l && not (stays c)) (thin_same d is_list list_blind a b t)) ∙ asked in
+        let asked_before : goes_from_list b m.0 ≡ false = goes_is b m.0 m.1 m.2 ∙ none_goes (is_list (kind_of b)) (stays m.1) (stays c) (stays_before d c m.1 m.3) stood in
+        kept m.0 m.1 m.2 (down b h m.0 m.1 m.2 asked_before) c m.3))
+
+    pub none_then : (a b : Node) → Thin d a b → NoneOfForm b → NoneOfForm a
+    none_then a b t h = induct Kept node_kept b h a t

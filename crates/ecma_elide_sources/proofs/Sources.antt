@@ -1,5 +1,6 @@
 -- What holds of whatever is left of a source holds of it without what the options drop.
-use Rattle.std.proofs.Common.{◌≡◌, ◌∙◌, ℕ, false, None, refl, sym, ap}
+use Rattle.std.proofs.Common.{◌≡◌, ◌∙◌, ℕ, Bool, false, refl, sym, ap}
+use Rattle.ecma_kind.specs.declared.kind.Kind.{Kind}
 use Rattle.ecma_kind.specs.declared.shapes.Sort.TheVariants as sort
 use Rattle.ecma_tree.specs.Sorted.{HasSort}
 use Rattle.ecma_tree.specs.declared.node.Node.{Node, out-Node}
@@ -8,11 +9,12 @@ use Rattle.ecma_config.specs.declared.config.Config.{Config}
 use Rattle.ecma_fits.specs.Fitting.{Fits}
 use Rattle.ecma_scope.specs.Resolved.{resolved}
 use Rattle.ecma_scope.proofs.Unchanged.{changes-contexts, keeps-sorts}
+use Rattle.ecma_scope_fits.proofs.Moved.{Blind}
 use Rattle.ecma_scope_fits.proofs.Contexts.{contexts_do_not_matter, resolved_fit_alike}
 use Rattle.ecma_elide.specs.Elision.{elided}
 use Rattle.ecma_elide.specs.declared.seat.Seat.{Seat}
 use Rattle.ecma_elide.specs.declared.seat.Seat.TheVariants as seat
-use Rattle.ecma_forms.specs.Forms.{first_unlowered}
+use Rattle.ecma_forms.specs.Forms.{is_unlowered_kind, is_untaken_kind}
 use Rattle.ecma_hygiene_fits.specs.Placed.{NoneMade, is_made}
 use Rattle.ecma_hygiene_fits.specs.Spelled.{NoneLong, is_long}
 use Rattle.ecma_plain.specs.Forms.{IsBareUnquestioned}
@@ -20,9 +22,9 @@ use Rattle.ecma_plain.specs.Items.{HasUtf8Hashbang}
 use Rattle.ecma_text_leaves.specs.Everywhere.{Everywhere}
 use Rattle.ecma_elide_fits.specs.Dropping.{Dropping, without}
 use Rattle.ecma_elide_fits.proofs.Elided.{dropping, elided_trees_fit, of_elided}
-use Rattle.ecma_elide_sources.specs.Laws.{ElidedSourcesAreRead, ElidedSourcesNeedNoLowering, ElidingKeepsNamesShort, ElidingMakesNoNames}
+use Rattle.ecma_elide_sources.specs.Laws.{ElidedSourcesAreRead, ElidedSourcesAreTaken, ElidedSourcesNeedNoLowering, ElidingKeepsNamesShort, ElidingMakesNoNames}
 use Rattle.ecma_elide_sources.specs.Sources.{elided_source}
-use Rattle.ecma_elide_sources.proofs.Lowering.{lowered_then}
+use Rattle.ecma_elide_sources.proofs.Lowering.{NoneOfForm, none_then}
 use Rattle.ecma_elide_sources.proofs.Reading.{bare_left, hashbang_left}
 use Rattle.ecma_elide_sources.proofs.Thin.{Thin, clear, empty, nothing, nothing_dropped, thin_same, thin_span}
 use Rattle.ecma_elide_sources.proofs.Walking.{none_fails_then}
@@ -53,9 +55,17 @@ sources_are_read config unresolved top left source is = record {
   hashbang = of_source config unresolved top left source (λ n. HasUtf8Hashbang (kind_of n)) is.fits.sorted (λ d a t. hashbang_left d a source t is.hashbang);
 }
 
+-- no node is of some forms, but of what goes with the types
+none_of_form : (kinds : Kind → Bool) → Blind Bool kinds → (config : Config) (unresolved top left : ℕ) (source : Node) → HasSort sort.Module source
+    → NoneOfForm kinds source → NoneOfForm kinds (elided_source config unresolved top left source)
+none_of_form kinds blind config unresolved top left source sorted h =
+    of_source config unresolved top left source (NoneOfForm kinds) sorted (λ d a t. none_then kinds blind d a source t h)
+
 pub sources_need_no_lowering : ElidedSourcesNeedNoLowering
-sources_need_no_lowering config unresolved top left source sorted h =
-    of_source config unresolved top left source (λ n. first_unlowered n ≡ None) sorted (λ d a t. lowered_then d a source t h)
+sources_need_no_lowering = none_of_form is_unlowered_kind (λ text x y optional. refl)
+
+pub sources_are_taken : ElidedSourcesAreTaken
+sources_are_taken config assign = none_of_form (is_untaken_kind assign) (λ text x y optional. refl) config
 
 pub names_stay_short : ElidingKeepsNamesShort
 names_stay_short config unresolved top left source sorted h =

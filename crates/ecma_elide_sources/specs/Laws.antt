@@ -4,8 +4,9 @@ use Rattle.ecma_kind.specs.declared.shapes.Sort.TheVariants as sort
 use Rattle.ecma_tree.specs.declared.node.Node.{Node}
 use Rattle.ecma_tree.specs.Sorted.{HasSort}
 use Rattle.ecma_config.specs.declared.config.Config.{Config}
+use Rattle.ecma_config.specs.declared.config.TsImportExportAssignConfig.{TsImportExportAssignConfig}
 use Rattle.ecma_fits.specs.Fitting.{Fits}
-use Rattle.ecma_forms.specs.Forms.{first_unlowered}
+use Rattle.ecma_forms.specs.Forms.{first_unlowered, first_untaken}
 use Rattle.ecma_hygiene_fits.specs.Placed.{NoneMade}
 use Rattle.ecma_hygiene_fits.specs.Spelled.{NoneLong}
 use Rattle.ecma_plain.specs.Read.{IsRead}
@@ -21,6 +22,12 @@ ElidedSourcesAreRead = (config : Config) (unresolved top left : ℕ) (source : N
 abbrev pub ElidedSourcesNeedNoLowering : Type 0
 ElidedSourcesNeedNoLowering =
     (config : Config) (unresolved top left : ℕ) (source : Node) → HasSort sort.Module source → first_unlowered source ≡ None → first_unlowered (elided_source config unresolved top left source) ≡ None
+
+-- and where each of its forms is taken, whatever the option on assignments is, each is then
+abbrev pub ElidedSourcesAreTaken : Type 0
+ElidedSourcesAreTaken =
+    (config : Config) (assign : TsImportExportAssignConfig) (unresolved top left : ℕ) (source : Node) → HasSort sort.Module source → first_untaken assign source ≡ None
+    → first_untaken assign (elided_source config unresolved top left source) ≡ None
 
 -- no identifier gets another text
 abbrev pub ElidingKeepsNamesShort : Type 0

@@ -10,6 +10,7 @@ mod laws;
 
 pub use eliding::elide_source;
 pub use laws::{
-    elided_sources_are_read, elided_sources_need_no_lowering, elided_sources_take_as_many_contexts,
-    eliding_keeps_names_short, eliding_makes_no_names, kept_sources_stay,
+    elided_sources_are_read, elided_sources_are_taken, elided_sources_need_no_lowering,
+    elided_sources_take_as_many_contexts, eliding_keeps_names_short, eliding_makes_no_names,
+    kept_sources_stay,
 };

@@ -1,5 +1,5 @@
 -- The equations of texts that are put together: those so far, and what the other parts of a template add.
-use Rattle.std.proofs.Common.{◌≡◌, ◌∙◌, ◌<◌, ◌≤◌, ◌⊎◌, inl, inr, ℕ, zero, suc, ◌+◌, List, [], ◌∷◌, ◌++◌, drop, get_or, length, refl, sym, ap, append_assoc, add-one, arith}
+use Rattle.std.proofs.Common.{◌≡◌, ◌∙◌, ◌<◌, ◌≤◌, ◌⊎◌, inl, inr, ℕ, zero, suc, ◌+◌, List, [], ◌∷◌, drop, get_or, length, refl, sym, ap, append_assoc, add-one, arith}
 use Rattle.std.proofs.lemmas.List.{append-nil, drop_all}
 use Rattle.ecma_enums.specs.declared.folded.Folded.{Folded}
 use Rattle.ecma_enums.specs.declared.folded.Folded.TheVariants.{Text, Number, Opaque, Beyond}

@@ -1,5 +1,5 @@
 -- The equations of what an expression folds to: of the node itself, of the child at an index, and of an item of the list that is that child.
-use Rattle.std.proofs.Common.{◌≡◌, if◌then◌else◌, ◌∙◌, ℕ, zero, suc, List, [], ◌∷◌, map, get_or, length, Option, Some, None, refl, ap, slice_get}
+use Rattle.std.proofs.Common.{◌≡◌, ◌∙◌, ℕ, zero, suc, List, [], ◌∷◌, map, get_or, length, Some, None, refl, ap, slice_get}
 use Rattle.std.specs.Option.{option_map_or}
 use Rattle.std.proofs.lemmas.List.{length-map}
 use Rattle.ecma_tree.proofs.Layers.{from_leaves_out}
@@ -7,8 +7,7 @@ use Rattle.ecma_tree.specs.declared.node.Node.{Node, out-Node}
 use Rattle.ecma_enums.specs.declared.computer.EnumValueComputer.{EnumValueComputer}
 use Rattle.ecma_enums.specs.declared.folded.Folded.{Folded}
 use Rattle.ecma_enums.specs.declared.folded.Folded.TheVariants.{Opaque}
-use Rattle.ecma_enums.specs.Folded.{is_plain, plain, text_alone}
-use Rattle.ecma_enums.specs.Folding.{Folding, count_at, folding, folding_by, key_by, kid, kids_of, nothing, value_by}
+use Rattle.ecma_enums.specs.Folding.{Folding, count_at, folding, folding_by, kid, kids_of, nothing, value_by}
 use Rattle.ecma_enums.proofs.At.{get_or-none, get_or-some}
 
 folding-out : (c : EnumValueComputer) (n : Node) → folding c n ≡ folding_by c n (kids_of c n)
@@ -31,17 +30,6 @@ value-some c n i x at = ap (λ (k : Folding). k.value) (kid-some c n i x at)
 
 pub value-none : (c : EnumValueComputer) (n : Node) (i : ℕ) → slice_get (out-Node n).children i ≡ None → (kid (kids_of c n) i).value ≡ Opaque
 value-none c n i at = ap (λ (k : Folding). k.value) (kid-none c n i at)
-
--- ---- keys
-
-pub key-out : (c : EnumValueComputer) (n : Node) → (folding c n).key ≡ key_by (out-Node n).kind (kids_of c n)
-key-out c n = ap (λ (k : Folding). k.key) (folding-out c n)
-
-pub key-some : (c : EnumValueComputer) (n : Node) (i : ℕ) (x : Node) → slice_get (out-Node n).children i ≡ Some x → (kid (kids_of c n) i).key ≡ (folding c x).key
-key-some c n i x at = ap (λ (k : Folding). k.key) (kid-some c n i x at)
-
-pub key-none : (c : EnumValueComputer) (n : Node) (i : ℕ) → slice_get (out-Node n).children i ≡ None → (kid (kids_of c n) i).key ≡ None
-key-none c n i at = ap (λ (k : Folding). k.key) (kid-none c n i at)
 
 -- ---- items
 
@@ -75,11 +63,4 @@ module _ (c : EnumValueComputer) where
 pub count : (c : EnumValueComputer) (n : Node) (l : ℕ) → length (kid (kids_of c n) l).items ≡ count_at n l
 count c n l = count-kid c (out-Node n).children l
 
-pub plain-out : (c : EnumValueComputer) (n : Node) → plain (kid (kids_of c n) 0).items (kid (kids_of c n) 1).items
-    ≡ (if is_plain (count_at n 0) (count_at n 1) then text_alone (get_or (kid (kids_of c n) 1).items 0 Opaque) else None)
-unfolding plain
-plain-out c n =
-    ap (λ (e : ℕ). if is_plain e (length (kid (kids_of c n) 1).items) then text_alone (get_or (kid (kids_of c n) 1).items 0 Opaque) else None) (count c n 0)
-    ∙ ap (λ (p : ℕ). if is_plain (count_at n 0) p then text_alone (get_or (kid (kids_of c n) 1).items 0 Opaque) else None) (count c n 1)
-
-pub ruleset kids = (value-out, value-some, value-none, key-out, key-some, key-none, item-some, item-none, count, plain-out)
+pub ruleset kids = (value-out, value-some, value-none, item-some, item-none, count)

@@ -1,5 +1,7 @@
 pub mod At
 pub mod Joining
 pub mod Naming
+pub mod Keying
 pub mod Kids
-pub mod Recording
+pub mod Answering
+pub mod Walking

@@ -1,5 +1,5 @@
 -- The equations of the name that an expression is.
-use Rattle.std.proofs.Common.{◌≡◌, ℕ, zero, suc, List, [], ◌∷◌, map, get_or, Option, Some, None, refl, ap, slice_get}
+use Rattle.std.proofs.Common.{◌≡◌, ℕ, map, Option, Some, None, slice_get}
 use Rattle.ecma_tree.proofs.Layers.{from_leaves_out}
 use Rattle.ecma_tree.specs.declared.node.Node.{Node, out-Node}
 use Rattle.ecma_enums.specs.Names.{Name, name_at, name_by, name_under}

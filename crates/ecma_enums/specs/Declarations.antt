@@ -1,5 +1,5 @@
--- The members of an enum declaration, in order (TypeScript handbook, "Enums").
-use Rattle.std.specs.Prelude.{ℕ, Bool, true, false, List, [], ◌∷◌, ◌++◌, Option, Some, None, Result, Ok, Err, not, slice_get, if◌then◌else◌}
+-- The members of an enum declaration (TypeScript handbook, "Enums").
+use Rattle.std.specs.Prelude.{ℕ, Bool, List, [], Option, Some, None, Result, Ok, Err, not, slice_get, if◌then◌else◌}
 use Rattle.std.specs.Option.{option_and_then, option_map_or}
 use Rattle.ecma_kind.specs.declared.kind.Kind.{Kind}
 use Rattle.ecma_kind.specs.declared.kind.Kind.TheVariants as kind
@@ -13,8 +13,8 @@ use Rattle.ecma_enums.specs.declared.value.TsEnumRecordValue.{TsEnumRecordValue}
 use Rattle.ecma_enums.specs.declared.value.TsEnumRecordValue.TheVariants as value
 use Rattle.ecma_enums.specs.Folded.{answer}
 use Rattle.ecma_enums.specs.Folding.{folded}
-use Rattle.ecma_enums.specs.Names.{Name, name_at}
-use Rattle.ecma_enums.specs.Values.{increased, zero}
+use Rattle.ecma_enums.specs.Names.{Name}
+use Rattle.ecma_enums.specs.Values.{zero}
 
 -- ---- a member
 
@@ -49,40 +49,12 @@ value_by c next at None = automatic at next
 abbrev pub member_value : EnumValueComputer → Option TsEnumRecordValue → Node → Result TsEnumRecordValue EnumError
 member_value c next m = value_by c next (out-Node m).span.lo (initialiser m)
 
--- ---- all of them
-
-abbrev pub entry_of : Name → Node → TsEnumRecordValue → TsEnumRecordEntry
-entry_of id m v = record { key = record { enum_id = id; member_name = member_name m }; value = v }
-
-abbrev pub with_member : EnumValueComputer → Node → TsEnumRecordValue → EnumValueComputer
-with_member c m v = record c { members = c.members ++ entry_of c.enum_id m v ∷ [] }
-
-abbrev pub and_then : {A B : Type 0} → (A → Result B EnumError) → Result A EnumError → Result B EnumError
-and_then f (Ok v) = f v
-and_then f (Err e) = Err e
-
--- each behind those before it, of which the next automatic value is told
-abbrev pub with_members : EnumValueComputer → Option TsEnumRecordValue → List Node → Result (List TsEnumRecordEntry) EnumError
-with_members c next [] = Ok c.members
-with_members c next (m ∷ ms) = and_then (λ v. with_members (with_member c m v) (increased v) ms) (member_value c next m)
-
 -- the first is 0
 abbrev pub first_value : Option TsEnumRecordValue
 first_value = Some (value.Number zero)
 
--- an enum that is not ambient
-abbrev pub is_recorded : Kind → Bool
-is_recorded (kind.TsEnumDecl false is_const) = true
-is_recorded _ = false
+-- ---- what is recorded
 
-abbrev pub items_at : Node → ℕ → List Node
-items_at n i = option_map_or (λ list. (out-Node list).children) (slice_get (out-Node n).children i) []
-
-abbrev pub named_members : ℕ → List TsEnumRecordEntry → Option Name → List Node → Result (List TsEnumRecordEntry) EnumError
-named_members unresolved es (Some id) ms = with_members (record { enum_id = id; unresolved_mark = unresolved; members = es }) first_value ms
-named_members unresolved es None ms = Ok es
-
--- the members that are known, with those of a declaration behind them; or what of it is beyond the numbers that are computed
-abbrev pub with_enum : ℕ → List TsEnumRecordEntry → Node → Result (List TsEnumRecordEntry) EnumError
-with_enum unresolved es declaration =
-    if is_recorded (out-Node declaration).kind then named_members unresolved es (name_at declaration 0) (items_at declaration 1) else Ok es
+-- of an enum that is `const` or is not
+abbrev pub entry_of : Name → Bool → Node → TsEnumRecordValue → TsEnumRecordEntry
+entry_of id is_const m v = record { key = record { enum_id = id; member_name = member_name m }; value = v; is_const = is_const }

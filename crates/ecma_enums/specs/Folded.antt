@@ -1,5 +1,5 @@
 -- What folding makes of an expression, of what it makes of the parts.
-use Rattle.std.specs.Prelude.{◌≡◌, ◌==◌, ◌&&◌, ℕ, Bool, true, false, List, [], ◌∷◌, ◌++◌, get_or, length, Option, Some, None, Result, Ok, Err, bit_and, bit_or, bit_xor, if◌then◌else◌}
+use Rattle.std.specs.Prelude.{◌≡◌, ℕ, Bool, true, false, List, [], ◌∷◌, ◌++◌, Option, Some, None, Result, Ok, Err, bit_and, bit_or, bit_xor, if◌then◌else◌}
 use Rattle.ecma_kind.specs.declared.operators.BinaryOp.{BinaryOp}
 use Rattle.ecma_kind.specs.declared.operators.BinaryOp.TheVariants as binary
 use Rattle.ecma_kind.specs.declared.operators.UnaryOp.{UnaryOp}
@@ -118,15 +118,3 @@ unfoldable pub template : List Folded → List Folded → Folded
 template [] expressions = Text []
 template (part ∷ parts) [] = joined (as_text part) (template parts [])
 template (part ∷ parts) (e ∷ es) = joined (as_text part) (joined (as_text e) (template parts es))
-
-abbrev pub text_alone : Folded → Option (List ℕ)
-text_alone (Text text) = Some text
-text_alone _ = None
-
--- a template has no expressions, so one part alone
-abbrev pub is_plain : ℕ → ℕ → Bool
-is_plain expressions parts = expressions == 0 && parts == 1
-
--- the text of a template without expressions
-unfoldable pub plain : List Folded → List Folded → Option (List ℕ)
-plain expressions parts = if is_plain (length expressions) (length parts) then text_alone (get_or parts 0 Opaque) else None

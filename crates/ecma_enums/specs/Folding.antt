@@ -1,5 +1,5 @@
 -- What an initialiser folds to, from the leaves of its tree up (TypeScript handbook, "Computed and constant members").
-use Rattle.std.specs.Prelude.{ℕ, ◌&&◌, ◌==◌, List, [], ◌∷◌, Option, Some, None, bytes_eq, codes, get_or, length, map, slice_get, if◌then◌else◌}
+use Rattle.std.specs.Prelude.{ℕ, ◌&&◌, ◌==◌, List, [], Option, Some, None, bytes_eq, codes, get_or, length, map, slice_get, if◌then◌else◌}
 use Rattle.std.specs.Option.{option_map_or}
 use Rattle.ecma_kind.specs.declared.kind.Kind.{Kind}
 use Rattle.ecma_kind.specs.declared.kind.Kind.TheVariants as kind
@@ -10,7 +10,8 @@ use Rattle.ecma_enums.specs.declared.computer.EnumValueComputer.{EnumValueComput
 use Rattle.ecma_enums.specs.declared.folded.Folded.{Folded}
 use Rattle.ecma_enums.specs.declared.folded.Folded.TheVariants.{Text, Number, Opaque}
 use Rattle.ecma_enums.specs.declared.value.TsEnumRecordValue.{TsEnumRecordValue}
-use Rattle.ecma_enums.specs.Folded.{binary_by, known, number_or_beyond, plain, template, unary_by}
+use Rattle.ecma_enums.specs.Folded.{binary_by, known, number_or_beyond, template, unary_by}
+use Rattle.ecma_enums.specs.Keys.{key_at}
 use Rattle.ecma_enums.specs.Names.{Name, name_at}
 use Rattle.ecma_enums.specs.Records.{recorded}
 
@@ -20,12 +21,10 @@ pub record Folding : Type 0 where
   pub value : Folded
   -- the values of its children
   pub items : List Folded
-  -- the text that it is as the key of a member
-  pub key : Option (List ℕ)
 
 -- of a child that is not there
 abbrev pub nothing : Folding
-nothing = record { value = Opaque; items = []; key = None }
+nothing = record { value = Opaque; items = [] }
 
 abbrev pub kid : List Folding → ℕ → Folding
 kid kids i = get_or kids i nothing
@@ -73,7 +72,7 @@ unfoldable pub value_by : EnumValueComputer → Kind → Node → List Folding �
 value_by c (kind.Str value raw) n kids = Text value
 value_by c (kind.Number value raw) n kids = number_or_beyond (out-Node n).span.lo value
 value_by c (kind.Ident sym ctxt optional) n kids = name_value c sym ctxt
-value_by c kind.MemberExpr n kids = read_by c (name_at n 0) (kid kids 1).key
+value_by c kind.MemberExpr n kids = read_by c (name_at n 0) (key_at n 1)
 value_by c (kind.UnaryExpr op) n kids = unary_by op (kid kids 0).value
 value_by c (kind.BinExpr op) n kids = binary_by (out-Node n).span.lo op (kid kids 0).value (kid kids 1).value
 value_by c kind.Tpl n kids = template (kid kids 1).items (kid kids 0).items
@@ -87,25 +86,10 @@ value_by c kind.TsInstantiation n kids = (kid kids 0).value
 value_by c kind.TsSatisfiesExpr n kids = (kid kids 0).value
 value_by c _ n kids = Opaque
 
--- a name behind a point, or a text in brackets, also with types round it
-unfoldable pub key_by : Kind → List Folding → Option (List ℕ)
-key_by (kind.IdentName sym) kids = Some sym
-key_by kind.ComputedPropName kids = (kid kids 0).key
-key_by (kind.Str value raw) kids = Some value
-key_by kind.Tpl kids = plain (kid kids 0).items (kid kids 1).items
-key_by kind.TsTypeAssertion kids = (kid kids 0).key
-key_by kind.TsConstAssertion kids = (kid kids 0).key
-key_by kind.TsNonNullExpr kids = (kid kids 0).key
-key_by kind.TsAsExpr kids = (kid kids 0).key
-key_by kind.TsInstantiation kids = (kid kids 0).key
-key_by kind.TsSatisfiesExpr kids = (kid kids 0).key
-key_by _ kids = None
-
 abbrev pub folding_by : EnumValueComputer → Node → List Folding → Folding
 folding_by c n kids = record {
   value = value_by c (out-Node n).kind n kids;
   items = map (λ (k : Folding). k.value) kids;
-  key = key_by (out-Node n).kind kids;
 }
 
 unfoldable pub folding : EnumValueComputer → Node → Folding

@@ -3,5 +3,8 @@ pub mod Folded
 pub mod Joined
 pub mod Records
 pub mod Names
+pub mod Keys
 pub mod Folding
 pub mod Declarations
+pub mod Walks
+pub mod KnownReads

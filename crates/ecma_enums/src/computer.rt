@@ -26,7 +26,7 @@ impl EnumValueComputer {
     /// The value of an initialiser, where it is known before the program runs: by texts, numerals, `NaN`, `Infinity`, members before it, operators on
     /// numbers, `+` with a text, templates, parentheses and types. `EnumNumber` comes exactly where the initialiser, or an operand or a part of a
     /// template that folding reaches, has a number beyond those that are computed; it tells the first in the text.
-    #[tactic(auto, using(crate::proofs::Recording::answers_same))]
+    #[tactic(auto, using(crate::proofs::Answering::answers_same))]
     pub fn compute(&self, alloc: Global, expr: &Expr) -> Result<TsEnumRecordValue, EnumError>
         ensures { Answers result (answer (folded self.now expr.now)) }
     {

@@ -1,18 +1,16 @@
-//! The members of an enum declaration.
+//! A member of an enum declaration.
 ghost use Rattle.std.specs.Prelude.{◌≡◌, IfOk};
 ghost use Rattle.std.specs.Option.{option_copied};
-ghost use Rattle.ecma_tree.specs.declared.node.Node.{out-Node};
 ghost use Rattle.ecma_enums.specs.Declarations as table;
-ghost use Rattle.ecma_enums.specs.Declarations.{entry_of, first_value, initialiser, with_enum};
+ghost use Rattle.ecma_enums.specs.Declarations.{entry_of, first_value, initialiser};
 ghost use Rattle.ecma_enums.specs.Folded.{Answers};
 
 use crate::computer::EnumValueComputer;
 use crate::error::EnumError;
-use crate::names::name_at;
-use crate::record::{TsEnumRecord, TsEnumRecordEntry, TsEnumRecordKey};
+use crate::record::{TsEnumRecordEntry, TsEnumRecordKey};
 use crate::value::TsEnumRecordValue;
 use ecma_number::JsNumber;
-use ecma_tree::{Id, JsWord, Kind, Mark, NoMemory, Node};
+use ecma_tree::{Id, JsWord, Kind, NoMemory, Node};
 use std::alloc::Global;
 
 /// The name of a member.
@@ -56,8 +54,8 @@ fn automatic(at: u32, next: Option<TsEnumRecordValue>) -> Result<TsEnumRecordVal
 }
 
 /// The value of a member, of which the automatic value is told.
-#[tactic(auto, using(crate::proofs::Recording::answers_same))]
-fn member_value(
+#[tactic(auto, using(crate::proofs::Answering::answers_same))]
+pub(crate) fn member_value(
     alloc: Global,
     computer: &EnumValueComputer,
     next: Option<TsEnumRecordValue>,
@@ -71,13 +69,15 @@ fn member_value(
     }
 }
 
-fn entry_of(
+/// The entry of a member of this value, of an enum of this id that is `const` or is not.
+pub(crate) fn entry_of(
     alloc: Global,
     id: &Id,
+    is_const: bool,
     member: &Node,
     value: TsEnumRecordValue,
 ) -> Result<TsEnumRecordEntry, NoMemory>
-    ensures { IfOk result (λ entry. entry ≡ entry_of id.now member.now value) }
+    ensures { IfOk result (λ entry. entry ≡ entry_of id.now is_const member.now value) }
 {
     let enum_id = (id.0.clone()?, id.1);
     let member_name = member_name(alloc, member)?;
@@ -85,84 +85,16 @@ fn entry_of(
         enum_id,
         member_name,
     };
-    Ok(TsEnumRecordEntry { key, value })
+    Ok(TsEnumRecordEntry {
+        key,
+        value,
+        is_const,
+    })
 }
 
-/// What is known behind a member of this value.
-fn with_member(
-    alloc: Global,
-    computer: EnumValueComputer,
-    member: &Node,
-    value: TsEnumRecordValue,
-) -> Result<EnumValueComputer, NoMemory>
-    ensures { IfOk result (λ after. after ≡ table.with_member computer member.now value) }
+/// The automatic value of the first member.
+pub(crate) fn first_value() -> Option<TsEnumRecordValue>
+    ensures { result ≡ first_value }
 {
-    let mut after = computer;
-    let entry = entry_of(alloc, &after.enum_id, member, value)?;
-    after.members.push(entry)?;
-    Ok(after)
-}
-
-/// The members that stand before, with those of a list behind them.
-#[tactic(auto, using(crate::proofs::Recording::recording))]
-fn with_members(
-    alloc: Global,
-    computer: EnumValueComputer,
-    members: &[Node],
-) -> Result<TsEnumRecord, EnumError>
-    ensures { Answers result (table.with_members computer first_value members.now) }
-{
-    let mut computer = computer;
-    let mut next = Some(TsEnumRecordValue::Number(JsNumber::from(0u32)));
-    for member in members {
-        let value = member_value(alloc, &computer, next, member)?;
-        next = value.inc();
-        computer = with_member(alloc, computer, member, value)?;
-    }
-    Ok(computer.members)
-}
-
-fn is_recorded(kind: &Kind) -> bool
-    ensures { result ≡ table.is_recorded kind.now }
-{
-    match kind {
-        Kind::TsEnumDecl { declare, .. } => !*declare,
-        _ => false,
-    }
-}
-
-/// The items of the list that is the child at an index.
-fn items_at(node: &Node, index: usize) -> &[Node]
-    ensures { result.now ≡ table.items_at node.now index }
-{
-    match node.children.get(index) {
-        Some(list) => list.children.as_slice(),
-        None => &[],
-    }
-}
-
-/// The members that stand before in the text, with those of an enum declaration behind them, in order, each with what is known of its value. Of an
-/// ambient declaration, and of what is none, there are none. `EnumNumber` comes exactly where a number of it is beyond those that are computed;
-/// it tells the first in the text.
-#[tactic(auto, using(crate::proofs::Recording::answers_same))]
-pub fn record_enum(
-    alloc: Global,
-    unresolved_mark: Mark,
-    members: TsEnumRecord,
-    declaration: &Node,
-) -> Result<TsEnumRecord, EnumError>
-    ensures { Answers result (with_enum unresolved_mark members declaration.now) }
-{
-    if !is_recorded(&declaration.kind) {
-        return Ok(members);
-    }
-    let Some(enum_id) = name_at(declaration, 0)? else {
-        return Ok(members);
-    };
-    let computer = EnumValueComputer {
-        enum_id,
-        unresolved_mark,
-        members,
-    };
-    with_members(alloc, computer, items_at(declaration, 1))
+    Some(TsEnumRecordValue::Number(JsNumber::from(0u32)))
 }

@@ -52,13 +52,3 @@ pub(crate) fn answer(folded: Folded) -> Result<TsEnumRecordValue, EnumError>
         Folded::Beyond(at) => Err(EnumError::EnumNumber { at }),
     }
 }
-
-/// What is a text, and nothing else.
-pub(crate) fn text_alone(folded: Folded) -> Option<JsWord>
-    ensures { result ≡ table.text_alone folded }
-{
-    match folded {
-        Folded::Text(text) => Some(text),
-        _ => None,
-    }
-}

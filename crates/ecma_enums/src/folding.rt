@@ -2,14 +2,16 @@
 ghost use Rattle.std.specs.Prelude.{◌≡◌, [], IfOk, get_or};
 ghost use Rattle.ecma_tree.specs.declared.node.Node.{out-Node};
 ghost use Rattle.ecma_enums.specs.declared.folded.Folded.TheVariants as folded;
-ghost use Rattle.ecma_enums.specs.Folded.{binary_by, is_plain, plain, template, unary_by};
+ghost use Rattle.ecma_enums.specs.Folded.{binary_by, template, unary_by};
 ghost use Rattle.ecma_enums.specs.Folding as table;
 ghost use Rattle.ecma_enums.specs.Folding.{count_at, folding, free_value, kid, kids_of, name_value, own_member, read, read_by};
+ghost use Rattle.ecma_enums.specs.Keys.{key_at};
 ghost use Rattle.ecma_enums.specs.Names.{name_at};
 
 use crate::computer::EnumValueComputer;
-use crate::folded::{Folded, known, number_or_beyond, text_alone};
+use crate::folded::{Folded, known, number_or_beyond};
 use crate::joined::Joined;
+use crate::keys::key_at;
 use crate::names::name_at;
 use crate::operators::{complement, is_arithmetic, minus, plus, sides};
 use crate::record::recorded;
@@ -69,6 +71,19 @@ fn read(computer: &EnumValueComputer, name: &Id, key: &str) -> Result<Folded, No
     Ok(known(value))
 }
 
+/// A member of what a name stands for.
+fn member(computer: &EnumValueComputer, node: &Node) -> Result<Folded, NoMemory>
+    ensures { IfOk result (λ known. known ≡ read_by computer.now (name_at node.now 0) (key_at node.now 1)) }
+{
+    let Some(name) = name_at(node, 0)? else {
+        return Ok(Folded::Opaque);
+    };
+    match key_at(node, 1)? {
+        Some(key) => read(computer, &name, key.as_str()),
+        None => Ok(Folded::Opaque),
+    }
+}
+
 fn text_or_opaque(text: &Option<JsWord>) -> Result<Folded, NoMemory>
     ensures { IfOk result (λ known. known ≡ table.text_or_opaque text.now) }
 {
@@ -86,13 +101,6 @@ fn count_at(node: &Node, index: usize) -> usize
         Some(list) => list.children.len(),
         None => 0,
     }
-}
-
-/// Whether a template with so many expressions and text parts is one part alone.
-fn is_plain(expressions: usize, parts: usize) -> bool
-    ensures { result ≡ is_plain expressions parts }
-{
-    expressions == 0 && parts == 1
 }
 
 /// What is known of the child at an index.
@@ -127,78 +135,6 @@ fn item_at(
 {
     match node.children.get(list) {
         Some(list) => fold_at(alloc, computer, list, index),
-        None => Ok(Folded::Opaque),
-    }
-}
-
-/// The key of a member that is the child at an index.
-#[cycle(folding)]
-#[tactic(auto, using(crate::proofs::Kids::kids))]
-fn key_at(
-    alloc: Global,
-    computer: &EnumValueComputer,
-    node: &Node,
-    index: usize,
-) -> Result<Option<JsWord>, NoMemory>
-    ensures { IfOk result (λ key. key ≡ (kid (kids_of computer.now node.now) index).key) }
-{
-    match node.children.get(index) {
-        Some(child) => key(alloc, computer, child),
-        None => Ok(None),
-    }
-}
-
-/// The text of a template without expressions.
-#[cycle(folding)]
-#[tactic(auto, using(crate::proofs::Kids::kids))]
-fn plain(
-    alloc: Global,
-    computer: &EnumValueComputer,
-    node: &Node,
-) -> Result<Option<JsWord>, NoMemory>
-    ensures { IfOk result (λ key. key
-        ≡ plain (kid (kids_of computer.now node.now) 0).items (kid (kids_of computer.now node.now) 1).items) }
-{
-    if !is_plain(count_at(node, 0), count_at(node, 1)) {
-        return Ok(None);
-    }
-    let part = item_at(alloc, computer, node, 1, 0)?;
-    Ok(text_alone(part))
-}
-
-/// The text that a node is as the key of a member.
-#[cycle(folding)]
-#[tactic(auto, using(crate::proofs::Kids::kids), unfolding(crate::specs::Folding::key_by))]
-fn key(alloc: Global, computer: &EnumValueComputer, node: &Node) -> Result<Option<JsWord>, NoMemory>
-    ensures { IfOk result (λ key. key ≡ (folding computer.now node.now).key) }
-{
-    match &node.kind {
-        Kind::IdentName { sym } => Ok(Some(sym.clone()?)),
-        Kind::ComputedPropName => key_at(alloc, computer, node, 0),
-        Kind::Str { value, .. } => Ok(Some(value.clone()?)),
-        Kind::Tpl => plain(alloc, computer, node),
-        Kind::TsTypeAssertion => key_at(alloc, computer, node, 0),
-        Kind::TsConstAssertion => key_at(alloc, computer, node, 0),
-        Kind::TsNonNullExpr => key_at(alloc, computer, node, 0),
-        Kind::TsAsExpr => key_at(alloc, computer, node, 0),
-        Kind::TsInstantiation => key_at(alloc, computer, node, 0),
-        Kind::TsSatisfiesExpr => key_at(alloc, computer, node, 0),
-        _ => Ok(None),
-    }
-}
-
-/// A member of what a name stands for.
-#[cycle(folding)]
-#[tactic(auto, using(crate::proofs::Kids::kids))]
-fn member(alloc: Global, computer: &EnumValueComputer, node: &Node) -> Result<Folded, NoMemory>
-    ensures { IfOk result (λ known. known
-        ≡ read_by computer.now (name_at node.now 0) (kid (kids_of computer.now node.now) 1).key) }
-{
-    let Some(name) = name_at(node, 0)? else {
-        return Ok(Folded::Opaque);
-    };
-    match key_at(alloc, computer, node, 1)? {
-        Some(key) => read(computer, &name, key.as_str()),
         None => Ok(Folded::Opaque),
     }
 }
@@ -291,7 +227,7 @@ pub(crate) fn fold(
         Kind::Str { value, .. } => Ok(Folded::Text(value.clone()?)),
         Kind::Number { value, .. } => Ok(number_or_beyond(node.span.lo, *value)),
         Kind::Ident { sym, ctxt, .. } => name_value(computer, sym.as_str(), *ctxt),
-        Kind::MemberExpr => member(alloc, computer, node),
+        Kind::MemberExpr => member(computer, node),
         Kind::UnaryExpr { op } => unary(alloc, computer, *op, node),
         Kind::BinExpr { op } => binary(alloc, computer, *op, node),
         Kind::Tpl => template(alloc, computer, node),

@@ -7,13 +7,17 @@ mod error;
 mod folded;
 mod folding;
 mod joined;
+mod keys;
+mod known_reads;
 mod names;
 mod operators;
 mod record;
 mod value;
+mod walk;
 
 pub use computer::EnumValueComputer;
-pub use declaration::record_enum;
 pub use error::EnumError;
+pub use known_reads::known_read;
 pub use record::{TsEnumRecord, TsEnumRecordEntry, TsEnumRecordKey};
 pub use value::TsEnumRecordValue;
+pub use walk::record_enums;

@@ -1,6 +1,7 @@
 //! The members of enums that stand before, and what is known of them.
 ghost use Rattle.std.specs.Prelude.{◌≡◌, IfOk};
-ghost use Rattle.ecma_enums.specs.Records.{is_of, recorded};
+ghost use Rattle.std.specs.Option.{option_copied};
+ghost use Rattle.ecma_enums.specs.Records.{entry_named, is_of, recorded};
 
 use crate::value::TsEnumRecordValue;
 use ecma_tree::{Id, JsWord, NoMemory, SyntaxContext};
@@ -19,6 +20,8 @@ pub struct TsEnumRecordKey {
 pub struct TsEnumRecordEntry {
     pub key: TsEnumRecordKey,
     pub value: TsEnumRecordValue,
+    /// Whether the enum is `const`.
+    pub is_const: bool,
 }
 
 /// Members in the order of the text. Of one that is there twice the later counts.
@@ -32,7 +35,25 @@ fn is_of(key: &TsEnumRecordKey, sym: &str, ctxt: SyntaxContext, name: &str) -> b
         && is_same(key.member_name.as_str(), name)
 }
 
-/// What is recorded of the member of this name, of the enum with this text and context.
+/// The entry of the member of this name, of the enum with this text and context.
+pub(crate) fn entry_named<'a>(
+    entries: &'a [TsEnumRecordEntry],
+    sym: &str,
+    ctxt: SyntaxContext,
+    name: &str,
+) -> Option<&'a TsEnumRecordEntry>
+    ensures { option_copied result ≡ entry_named sym.now ctxt name.now entries.now }
+{
+    let mut found = None;
+    for entry in entries {
+        if is_of(&entry.key, sym, ctxt, name) {
+            found = Some(entry);
+        }
+    }
+    found
+}
+
+/// What is recorded of it.
 pub(crate) fn recorded(
     entries: &[TsEnumRecordEntry],
     sym: &str,
@@ -41,11 +62,8 @@ pub(crate) fn recorded(
 ) -> Result<Option<TsEnumRecordValue>, NoMemory>
     ensures { IfOk result (λ value. value ≡ recorded sym.now ctxt name.now entries.now) }
 {
-    let mut found = None;
-    for entry in entries {
-        if is_of(&entry.key, sym, ctxt, name) {
-            found = Some(entry.value.clone()?);
-        }
+    match entry_named(entries, sym, ctxt, name) {
+        Some(entry) => Ok(Some(entry.value.clone()?)),
+        None => Ok(None),
     }
-    Ok(found)
 }

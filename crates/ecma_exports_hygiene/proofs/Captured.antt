@@ -26,7 +26,7 @@ use Rattle.ecma_hygiene.specs.Ids.{Id as HygieneId}
 use Rattle.ecma_hygiene.specs.Renamed.{text_of}
 use Rattle.ecma_hygiene.specs.Texts.{HygienicTexts, text_in}
 use Rattle.ecma_hygiene.proofs.Telling.{true-false}
-use Rattle.ecma_hygiene_fits.specs.Placed.{NoneMade}
+use Rattle.ecma_hygiene_fits.specs.Placed.{NoneMadeBut}
 use Rattle.ecma_hygiene_runs.specs.Plain.{is_plain, is_plain_kind}
 use Rattle.ecma_hygiene_scopes.specs.Apart.{TellsScopesApart}
 use Rattle.ecma_hygiene_scopes.specs.DeclaredIds.{ids_declared}
@@ -104,7 +104,7 @@ to-all : (P : Id → Type 0) (ids : List Id) → Every P ids → All P ids
 to-all P [] h = All-nil P
 to-all P (id ∷ ids) h = All-cons P id ids h.0 (to-all P ids h.1)
 
-module _ (assignments : Bool) (free : ℕ) (tree : Node) (names : List Naming) (ready : IsReady assignments free tree) (own : HasOwnContexts tree) (made : NoneMade (stripped tree)) (none : first_captured free tree ≡ None)
+module _ (assignments : Bool) (free : ℕ) (tree : Node) (names : List Naming) (ready : IsReady assignments free tree) (own : HasOwnContexts tree) (made : NoneMadeBut free (stripped tree)) (none : first_captured free tree ≡ None)
     (texts : HygienicTexts (stripped tree) names) where
   abbrev whole : Node
   whole = stripped tree
@@ -275,4 +275,4 @@ module _ (assignments : Bool) (free : ℕ) (tree : Node) (names : List Naming) (
       (subst (λ (cs : List Node). Every Keeps (export_names ((meaning_by whole (out-Node whole).kind (map meaning cs)).exports None))) (sym t.are) (module-keeps whole (out-Node whole).kind t.whole)))
 
 pub exports-that-are-not-captured : StrippingMakesNoNames → ExportsThatAreNotCapturedKeepTheirTexts
-exports-that-are-not-captured stripping assignments free tree names ready own made none texts = exports-keep assignments free tree names ready own (stripping tree made) none texts
+exports-that-are-not-captured stripping assignments free tree names ready own made none texts = exports-keep assignments free tree names ready own (stripping free tree made) none texts

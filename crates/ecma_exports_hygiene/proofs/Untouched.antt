@@ -1,5 +1,5 @@
 -- A binding of the scope of a module whose text no free name has, keeps its text.
-use Rattle.std.proofs.Common.{◌≡◌, refl, sym, ap, ap₂, ◌∙◌, subst, ℕ, ◌-◌, List, [], ◌∷◌, map, Option, Some, None, Bool, true, false, cond, not, ◌&&◌, ◌||◌, bytes_eq}
+use Rattle.std.proofs.Common.{◌≡◌, refl, sym, ap, ap₂, ◌∙◌, subst, ℕ, ◌-◌, List, [], ◌∷◌, map, Option, Some, None, Bool, true, false, cond, not, ◌&&◌, ◌||◌, ◌==◌, bytes_eq, eqb-true}
 use Rattle.std.specs.List.{All, list_any}
 use Rattle.std.proofs.lemmas.List.Elements.{All-cons, All-head, All-nil, All-tail}
 use Rattle.std.proofs.lemmas.Slice.Eq.{bytes_eq-Decides}
@@ -23,11 +23,11 @@ use Rattle.ecma_hygiene.specs.Renamed.{text_of}
 use Rattle.ecma_hygiene.specs.Sights.{around_child, meetings, nowhere, own_scope, sights}
 use Rattle.ecma_hygiene.specs.Texts.{HygienicTexts, is_met, is_new, text_in}
 use Rattle.ecma_hygiene.proofs.Telling.{or-left, or-right, true-false}
-use Rattle.ecma_hygiene_fits.specs.Placed.{NoneMade}
+use Rattle.ecma_hygiene_fits.specs.Placed.{NoneMadeBut}
 use Rattle.ecma_hygiene_scopes.specs.Apart.{AreApart, IsScoped, TellsScopesApart, own_contexts}
 use Rattle.ecma_hygiene_scopes.specs.Stops.{Stop, stops_at, stops_from}
 use Rattle.ecma_hygiene_scopes.proofs.Membership.{contexts-agree}
-use Rattle.ecma_hygiene_scopes.proofs.Stopping.{stops-below, stops-out}
+use Rattle.ecma_hygiene_scopes.proofs.Stopping.{stop-here, stops-below, stops-out}
 use Rattle.ecma_strip_scopes.proofs.Going.{parts-have}
 use Rattle.ecma_strip_scopes.proofs.ScopesSame.{id-context}
 use Rattle.ecma_exports_hygiene.specs.Laws.{BindingsThatAreNotCapturedKeepTheirTexts}
@@ -115,12 +115,23 @@ module _ (free : ℕ) (tree : Node) (id : Id) where
         (stops-below (IsScoped free) whole nowhere 0 tells.scoped)
         (stops-below (HoldsAt (IsOther free id.0)) whole nowhere 0 (at-stops (IsOther free id.0) whole nowhere 0 (others-left free id.0 tree not-free)))
 
-    -- so it keeps its text, where no identifier was made
-    pub keeps : (names : List Named) → HygienicTexts whole names → NoneMade whole → text_of (text_in names) id ≡ id.0
+    -- and it is no free name
+    lacks-free : has_context free (own_contexts root) ≡ false
+    lacks-free = (stop-here (IsScoped free) whole nowhere 0 tells.scoped).not_free
+
+    inner : (id.1 == free) ≡ false
+    inner = by (id.1 == free) refl
+      where
+        by : (b : Bool) → (id.1 == free) ≡ b → b ≡ false
+        by true e = absurd (true-false (sym (ap (λ ctxt. has_context ctxt (own_contexts root)) (eqb-true id.1 free e)) ∙ root-has is rooted) lacks-free)
+        by false e = refl
+
+    -- so it keeps its text, where no identifier was made but for free names
+    pub keeps : (names : List Named) → HygienicTexts whole names → NoneMadeBut free whole → text_of (text_in names) id ≡ id.0
     keeps names texts made =
         let seen = sights whole in
         let met = meetings whole in
-        keeps-text seen met names id texts (none-new id whole made)
+        keeps-text seen met names id texts (none-new free id inner whole made)
         (and-no (not (is_new seen id)) (is_met seen met id) (never-met id seen met (none-met id free whole (0 - taken role.Root whole) is fine)))
 
 pub bindings-keep : BindingsThatAreNotCapturedKeepTheirTexts

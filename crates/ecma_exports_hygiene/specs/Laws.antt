@@ -10,7 +10,7 @@ use Rattle.ecma_hygiene.specs.Ids.{Id, has_context}
 use Rattle.ecma_hygiene.specs.Renamed.{text_of}
 use Rattle.ecma_hygiene.specs.Sights.{own_scope}
 use Rattle.ecma_hygiene.specs.Texts.{HygienicTexts, text_in}
-use Rattle.ecma_hygiene_fits.specs.Placed.{NoneMade}
+use Rattle.ecma_hygiene_fits.specs.Placed.{NoneMadeBut}
 use Rattle.ecma_hygiene_scopes.specs.Apart.{TellsScopesApart}
 use Rattle.ecma_hygiene_runs.specs.Exports.{KeepsExportedTexts}
 use Rattle.ecma_ready.specs.Ready.{HasOwnContexts, IsReady}
@@ -19,13 +19,13 @@ use Rattle.ecma_strip.specs.Stripping.{stripped}
 -- where no exported name is captured, a binding of the scope of a module has its text without types, if that is the text of an exported declaration
 abbrev pub BindingsThatAreNotCapturedKeepTheirTexts : Type 0
 BindingsThatAreNotCapturedKeepTheirTexts =
-    (free : ℕ) (tree : Node) (names : List Named) (id : Id) → HasSort sort.Module (stripped tree) → TellsScopesApart free 0 (stripped tree) → NoneMade (stripped tree) → first_captured free tree ≡ None
+    (free : ℕ) (tree : Node) (names : List Named) (id : Id) → HasSort sort.Module (stripped tree) → TellsScopesApart free 0 (stripped tree) → NoneMadeBut free (stripped tree) → first_captured free tree ≡ None
     → is_among (exported_names free tree) id.0 ≡ true → has_context id.1 (own_scope role.Root [] (stripped tree) id.0) ≡ true → HygienicTexts (stripped tree) names
     → text_of (text_in names) id ≡ id.0
 
--- so each exported declaration of a tree that is ready, in which each scope has contexts of its own, and of which no identifier was made, keeps its text
--- without its types
+-- so each exported declaration of a tree that is ready, in which each scope has contexts of its own, and of which no identifier was made but for free names,
+-- keeps its text without its types
 abbrev pub ExportsThatAreNotCapturedKeepTheirTexts : Type 0
 ExportsThatAreNotCapturedKeepTheirTexts =
-    (assignments : Bool) (free : ℕ) (tree : Node) (names : List Named) → IsReady assignments free tree → HasOwnContexts tree → NoneMade tree → first_captured free tree ≡ None → HygienicTexts (stripped tree) names
+    (assignments : Bool) (free : ℕ) (tree : Node) (names : List Named) → IsReady assignments free tree → HasOwnContexts tree → NoneMadeBut free tree → first_captured free tree ≡ None → HygienicTexts (stripped tree) names
     → KeepsExportedTexts (text_of (text_in names)) (stripped tree)

@@ -1,10 +1,11 @@
-//! The forms that are not taken yet, and those that another pass has to lower first, node by node.
+//! The forms that are not taken yet, node by node.
 ghost use Rattle.std.specs.Prelude.{◌≡◌};
 ghost use Rattle.ecma_strip.specs.Staying.{is_this_ident};
 ghost use Rattle.ecma_rules.specs.Children.{child_holds, child_is, kind_of};
 ghost use Rattle.ecma_rules.specs.Members.{has_body};
-ghost use Rattle.ecma_forms.specs.Forms.{is_ambient_variable, is_later, is_odd_by, is_unlowered, is_unlowered_kind, is_untaken, names_this};
+ghost use Rattle.ecma_forms.specs.Forms.{is_ambient_variable, is_odd_by, is_untaken, is_untaken_kind, keeps_exports, keeps_requires, names_this};
 
+use ecma_config::TsImportExportAssignConfig;
 use ecma_rules::has_child;
 use ecma_tree::{Kind, Node};
 
@@ -76,57 +77,44 @@ fn is_odd(node: &Node) -> bool
     }
 }
 
-/// Enums and namespaces, what is not of ECMAScript among imports and exports, and parameter properties.
-fn is_unlowered_kind(kind: &Kind) -> bool
-    ensures { result ≡ is_unlowered_kind kind.now }
+/// Whether an option keeps `import a = require("m")`, or writes it with a `require` that is made.
+fn keeps_requires(assign: TsImportExportAssignConfig) -> bool
+    ensures { result ≡ keeps_requires assign }
 {
     matches!(
-        kind,
-        Kind::ExportDefaultSpecifier
-            | Kind::TsImportEqualsDecl { .. }
-            | Kind::TsExternalModuleRef
-            | Kind::TsQualifiedName
-            | Kind::TsExportAssignment
-            | Kind::TsEnumDecl { .. }
-            | Kind::TsEnumMember
-            | Kind::TsModuleDecl { .. }
-            | Kind::TsModuleBlock
-            | Kind::TsNamespaceDecl { .. }
-            | Kind::TsParamProp { .. }
+        assign,
+        TsImportExportAssignConfig::Preserve | TsImportExportAssignConfig::NodeNext
     )
 }
 
-/// These, and all other imports and exports.
-fn is_later(kind: &Kind) -> bool
-    ensures { result ≡ is_later kind.now }
+/// Whether an option keeps `export = e`.
+fn keeps_exports(assign: TsImportExportAssignConfig) -> bool
+    ensures { result ≡ keeps_exports assign }
+{
+    matches!(assign, TsImportExportAssignConfig::Preserve)
+}
+
+/// Enums and namespaces, parameter properties, `export a from "m"`, and the assignments that are not lowered.
+fn is_untaken_kind(assign: TsImportExportAssignConfig, kind: &Kind) -> bool
+    ensures { result ≡ is_untaken_kind assign kind.now }
 {
     match kind {
-        Kind::ImportDecl { .. }
-        | Kind::ImportNamedSpecifier { .. }
-        | Kind::ImportDefaultSpecifier
-        | Kind::ImportStarAsSpecifier
-        | Kind::ExportDecl
-        | Kind::NamedExport { .. }
-        | Kind::ExportNamedSpecifier { .. }
-        | Kind::ExportNamespaceSpecifier
-        | Kind::ExportDefaultDecl
-        | Kind::ExportDefaultExpr
-        | Kind::ExportAll { .. }
-        | Kind::TsNamespaceExportDecl => true,
-        _ => is_unlowered_kind(kind),
+        Kind::TsExternalModuleRef => keeps_requires(assign),
+        Kind::TsExportAssignment => keeps_exports(assign),
+        Kind::ExportDefaultSpecifier
+        | Kind::TsEnumDecl { .. }
+        | Kind::TsEnumMember
+        | Kind::TsModuleDecl { .. }
+        | Kind::TsModuleBlock
+        | Kind::TsNamespaceDecl { .. }
+        | Kind::TsParamProp { .. } => true,
+        _ => false,
     }
 }
 
 /// Whether a node is of a form that is not taken, as far as its kind and what stands directly in it say.
-pub(crate) fn is_untaken(node: &Node) -> bool
-    ensures { result ≡ is_untaken node.now }
+pub(crate) fn is_untaken(assign: TsImportExportAssignConfig, node: &Node) -> bool
+    ensures { result ≡ is_untaken assign node.now }
 {
-    is_later(&node.kind) || is_odd(node)
-}
-
-/// Whether a node is of a form that another pass has to lower first, as far as these say.
-pub(crate) fn is_unlowered(node: &Node) -> bool
-    ensures { result ≡ is_unlowered node.now }
-{
-    is_unlowered_kind(&node.kind) || is_odd(node)
+    is_untaken_kind(assign, &node.kind) || is_odd(node)
 }

@@ -24,10 +24,10 @@ use Rattle.ecma_strip_fits.proofs.Strays.{not_failing}
 use Rattle.ecma_bind_fits.proofs.Bound.{parts_none}
 use Rattle.ecma_hygiene.specs.declared.spot.Standing.{Standing}
 use Rattle.ecma_hygiene.specs.Renamed.{Texts, at_root, renamed, standing_in, text_of}
-use Rattle.ecma_hygiene_fits.proofs.Becoming.{all_become, become, children_stay, children_unchanged, is_changed, is_touched, kind_stays}
-use Rattle.ecma_interface.specs.Interface.{AllNames, ReExport}
+use Rattle.ecma_hygiene_fits.proofs.Becoming.{Quiet, all_become, become, child_same, children_stay, children_unchanged, is_changed, is_touched, kind_stays}
+use Rattle.ecma_interface.specs.Interface.{AllNames, Export, ReExport}
 use Rattle.ecma_interface.specs.Names.{Id, bound_names}
-use Rattle.ecma_interface.specs.Reading.{again, attribute, attributes_of, bound_at, bound_of, by_its_name, default_of, export_by, export_specifier, import_by, import_entry, interface_of, own_text, re_export_by, request_at, said_at, said_by, said_of}
+use Rattle.ecma_interface.specs.Reading.{again, attribute, attributes_of, bound_at, bound_of, by_its_name, default_of, export_by, export_specifier, import_by, import_entry, interface_of, is_required, own_text, re_export_by, request_at, said_at, said_by, said_of}
 use Rattle.ecma_interface_laws.proofs.Alike.{children_of}
 use Rattle.ecma_interface_laws.proofs.Items.{SameItem, SameItems, Tells, interface_same}
 use Rattle.ecma_interface_laws.proofs.Telling.{Shapes, child_shaped, is_item, items_stay, list_shaped, listed_shaped, shapes_of, silent}
@@ -99,6 +99,11 @@ value_untouched : (k : Kind) → is_text k ≡ true → is_touched k ≡ false
 unfolding is_touched
 value_untouched (kind.Str value raw) b = refl
 value_untouched _ b = cc
+
+required_quiet : Quiet false is_required
+unfolding is_touched
+required_quiet kind.TsExternalModuleRef t = cc
+required_quiet _ t = refl
 
 declaration_untouched : (k : Kind) → belongs sort.Decl k ≡ true → is_touched k ≡ false
 unfolding is_touched
@@ -334,7 +339,8 @@ module _ (texts : Texts) (x : Node) (w : Where) (stands : Standing) (shaped : Ha
       let own = kept (ap exports_declaration e) in
       let bound = bound_kept k e refl
       (λ d there. equals_kept texts x true false e stands d (child_shaped x (one sort.ModuleItem, shaped) k e 0 (one sort.Ident) (λ s n. refl) d there) (subst (λ o. KeepTexts texts (bound_of o)) there own)) in
-      (refl, refl, ap (map (by_its_name own_text)) bound ∙ named_same texts (bound_at x 0) own)
+      let required = child_same texts is_required false required_quiet x stands (ap is_touched e ∙ item_untouched k refl) 1 in
+      (refl, refl, ap₂ (λ (q : Bool) (es : List Export). cond q [] es) required (ap (map (by_its_name own_text)) bound ∙ named_same texts (bound_at x 0) own))
   telling_by kept (kind.TsImportEqualsDecl false true) e i = (refl, refl, refl)
   telling_by kept (kind.TsImportEqualsDecl false false) e i = (refl, refl, refl)
   telling_by kept _ e i = cc

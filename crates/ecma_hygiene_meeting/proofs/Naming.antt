@@ -66,6 +66,7 @@ layer n kind.TsInstantiation (e ∷ types ∷ []) id h = e.1 id h
 layer n kind.TsSatisfiesExpr (e ∷ type ∷ []) id h = e.1 id h
 layer n kind.TsQualifiedName (left ∷ right ∷ []) id h = absurd (true-false h refl)
 layer n (kind.TsImportEqualsDecl false false) (name ∷ source ∷ []) id h = absurd (true-false h refl)
+layer n (kind.TsImportEqualsDecl true false) (name ∷ source ∷ []) id h = absurd (true-false h (ap (is_among id) (no-names (meaning source.0).is_required _ _ refl refl)))
 layer n kind.TsTypeAnn ns id h = absurd (true-false h refl)
 layer n kind.TsTypeParamDecl ns id h = absurd (true-false h refl)
 layer n kind.TsTypeParamInstantiation ns id h = absurd (true-false h refl)

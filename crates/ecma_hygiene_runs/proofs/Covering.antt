@@ -35,11 +35,11 @@ sub-left (x ∷ xs) ys id h = go (same_id x id) (sub-left xs ys id) h
     go true rec h = refl
     go false rec h = rec h
 
-sub-right : (xs ys : List Id) → Sub ys (xs ++ ys)
+pub sub-right : (xs ys : List Id) → Sub ys (xs ++ ys)
 sub-right [] ys id h = h
 sub-right (x ∷ xs) ys id h = or-second (same_id x id) (is_among id (xs ++ ys)) (sub-right xs ys id h)
 
-sub-join : (xs ys zs : List Id) → Sub xs zs → Sub ys zs → Sub (xs ++ ys) zs
+pub sub-join : (xs ys zs : List Id) → Sub xs zs → Sub ys zs → Sub (xs ++ ys) zs
 sub-join [] ys zs f g id h = g id h
 sub-join (x ∷ xs) ys zs f g id h = go (same_id x id) refl (sub-join xs ys zs (λ id h. f id (or-second (same_id x id) (is_among id xs) h)) g id) h
   where
@@ -56,7 +56,7 @@ sub-nil zs id h = absurd (cc)
 pub sub-same : (xs ys : List Id) → xs ≡ ys → Sub xs ys
 sub-same xs ys e id h = ap (is_among id) (sym e) ∙ h
 
-sub-none : (xs zs : List Id) → xs ≡ [] → Sub xs zs
+pub sub-none : (xs zs : List Id) → xs ≡ [] → Sub xs zs
 sub-none xs zs e id h = absurd (true-false h (ap (is_among id) e))
 
 -- what a node declares, and its names where it may have names that are declared
@@ -230,33 +230,44 @@ list-covered (c ∷ cs) named zs i f g = (
   list-covered cs named zs (suc i) (λ id h. f id (sub-right (declared c) (all_declared (map meaning cs)) id h)) (λ e id h. g e id (sub-right (names c) (all_names (map meaning cs)) id h)),
 )
 
+-- what is done behind all items
+abbrev pub is_last : Kind → Bool
+is_last kind.TsExportAssignment = true
+is_last _ = false
+
 pub layer-covered : (k : Kind) (shape : Shape) (cs : List Node) (named : Bool) → is_plain_kind k ≡ true → has_no_effect k (map meaning cs) ≡ false → has_no_receiver k cs ≡ true
-    → HaveShapes (child_shapes k shape (length cs)) cs → Covered k named (layer k cs named) 0 cs
-layer-covered kind.TsAsExpr shape cs named j e r h = absurd (cc)
-layer-covered kind.TsTypeAssertion shape cs named j e r h = absurd (cc)
-layer-covered kind.TsConstAssertion shape cs named j e r h = absurd (cc)
-layer-covered kind.TsNonNullExpr shape cs named j e r h = absurd (cc)
-layer-covered kind.TsInstantiation shape cs named j e r h = absurd (cc)
-layer-covered kind.TsSatisfiesExpr shape cs named j e r h = absurd (cc)
-layer-covered kind.TsTypeAnn shape cs named j e r h = absurd (cc)
-layer-covered kind.TsTypeParamDecl shape cs named j e r h = absurd (cc)
-layer-covered kind.TsTypeParamInstantiation shape cs named j e r h = absurd (cc)
-layer-covered (kind.TsEnumDecl x y) shape cs named j e r h = absurd (cc)
-layer-covered kind.TsEnumMember shape cs named j e r h = absurd (cc)
-layer-covered (kind.TsModuleDecl x y) shape cs named j e r h = absurd (cc)
-layer-covered (kind.TsNamespaceDecl x y) shape cs named j e r h = absurd (cc)
-layer-covered (kind.TsImportEqualsDecl x y) shape cs named j e r h = absurd (cc)
-layer-covered (kind.TsTypeAliasDecl x) shape cs named j e r h = absurd (cc)
-layer-covered (kind.FnDecl true) shape cs named j e r h = absurd (cc)
-layer-covered (kind.ClassDecl true) shape cs named j e r h = absurd (cc)
-layer-covered (kind.ImportNamedSpecifier true) shape cs named j e r h = absurd (cc)
-layer-covered kind.Absent shape [] named j e r h = tt
-layer-covered kind.Absent shape (a₃ ∷ cs) named j e r h = absurd h
-layer-covered kind.List shape cs named j e r h =
+    → HaveShapes (child_shapes k shape (length cs)) cs → is_last k ≡ false → Covered k named (layer k cs named) 0 cs
+layer-covered kind.TsAsExpr shape cs named j e r h u = absurd (cc)
+layer-covered kind.TsTypeAssertion shape cs named j e r h u = absurd (cc)
+layer-covered kind.TsConstAssertion shape cs named j e r h u = absurd (cc)
+layer-covered kind.TsNonNullExpr shape cs named j e r h u = absurd (cc)
+layer-covered kind.TsInstantiation shape cs named j e r h u = absurd (cc)
+layer-covered kind.TsSatisfiesExpr shape cs named j e r h u = absurd (cc)
+layer-covered kind.TsTypeAnn shape cs named j e r h u = absurd (cc)
+layer-covered kind.TsTypeParamDecl shape cs named j e r h u = absurd (cc)
+layer-covered kind.TsTypeParamInstantiation shape cs named j e r h u = absurd (cc)
+layer-covered (kind.TsEnumDecl x y) shape cs named j e r h u = absurd (cc)
+layer-covered kind.TsEnumMember shape cs named j e r h u = absurd (cc)
+layer-covered (kind.TsModuleDecl x y) shape cs named j e r h u = absurd (cc)
+layer-covered (kind.TsNamespaceDecl x y) shape cs named j e r h u = absurd (cc)
+layer-covered (kind.TsImportEqualsDecl x y) shape cs named j e r h u = absurd (cc)
+layer-covered kind.TsExportAssignment shape cs named j e r h u = absurd (true-false refl u)
+layer-covered (kind.Module shebang) shape (body ∷ []) named j e r h u =
+    let ds = declared body ++ (meaning body).last_declared in
+    (unnamed body false (layer (kind.Module shebang) (body ∷ []) named) refl (λ id h. sub-left ds (cond named [] []) id (sub-left (declared body) (meaning body).last_declared id h)), tt)
+layer-covered (kind.Module shebang) shape [] named j e r h u = tt
+layer-covered (kind.Module shebang) shape (a₁ ∷ a₂ ∷ cs) named j e r h u = absurd h.1
+layer-covered (kind.TsTypeAliasDecl x) shape cs named j e r h u = absurd (cc)
+layer-covered (kind.FnDecl true) shape cs named j e r h u = absurd (cc)
+layer-covered (kind.ClassDecl true) shape cs named j e r h u = absurd (cc)
+layer-covered (kind.ImportNamedSpecifier true) shape cs named j e r h u = absurd (cc)
+layer-covered kind.Absent shape [] named j e r h u = tt
+layer-covered kind.Absent shape (a₃ ∷ cs) named j e r h u = absurd h
+layer-covered kind.List shape cs named j e r h u =
     let ds = all_declared (map meaning cs) in
     let ns = all_names (map meaning cs) in
     list-covered cs named (ds ++ cond named ns []) 0 (sub-left ds (cond named ns [])) (λ is. named-names ds ns named is)
-layer-covered (kind.VarDecl w d) shape (list ∷ []) named j e r h =
+layer-covered (kind.VarDecl w d) shape (list ∷ []) named j e r h u =
     let h0 = h.0 in
     let k = kind.VarDecl w d in
     let cs = list ∷ [] in
@@ -264,139 +275,139 @@ layer-covered (kind.VarDecl w d) shape (list ∷ []) named j e r h =
     let ns = cond named (names_of k (map meaning cs)) [] in
     let zs = layer k cs named in
     (cover-sub list true zs (λ id h. sub-left ds ns id (sub-left (declared list) [] id h)) (λ is. sub-then (names list) (declared list) zs (declarators list h0) (λ id h. sub-left ds ns id (sub-left (declared list) [] id h))), tt)
-layer-covered (kind.VarDecl w d) shape [] named j e r h = tt
-layer-covered (kind.VarDecl w d) shape (a₁ ∷ a₂ ∷ cs) named j e r h = absurd h.1
-layer-covered (kind.VarDeclarator d) shape (name ∷ init ∷ []) named j e r h =
+layer-covered (kind.VarDecl w d) shape [] named j e r h u = tt
+layer-covered (kind.VarDecl w d) shape (a₁ ∷ a₂ ∷ cs) named j e r h u = absurd h.1
+layer-covered (kind.VarDeclarator d) shape (name ∷ init ∷ []) named j e r h u =
     let k = kind.VarDeclarator d in
     let cs = name ∷ init ∷ [] in
     let ds = declared_of k (map meaning cs) in
     let ns = cond named (names_of k (map meaning cs)) [] in
     let zs = layer k cs named in
     (cover-sub name named zs (λ id h. sub-left ds ns id (sub-right (names name) ((declared name) ++ (declared init)) id (sub-left (declared name) (declared init) id h))) (λ is. (λ id h. sub-left ds ns id (sub-left (names name) ((declared name) ++ (declared init)) id h))), (unnamed init false zs refl (λ id h. sub-left ds ns id (sub-right (names name) ((declared name) ++ (declared init)) id (sub-right (declared name) (declared init) id h))), tt))
-layer-covered (kind.VarDeclarator d) shape [] named j e r h = tt
-layer-covered (kind.VarDeclarator d) shape (a₁ ∷ []) named j e r h = absurd h.1
-layer-covered (kind.VarDeclarator d) shape (a₁ ∷ a₂ ∷ a₃ ∷ cs) named j e r h = absurd h.1.1
-layer-covered kind.Param shape (p ∷ []) named j e r h =
+layer-covered (kind.VarDeclarator d) shape [] named j e r h u = tt
+layer-covered (kind.VarDeclarator d) shape (a₁ ∷ []) named j e r h u = absurd h.1
+layer-covered (kind.VarDeclarator d) shape (a₁ ∷ a₂ ∷ a₃ ∷ cs) named j e r h u = absurd h.1.1
+layer-covered kind.Param shape (p ∷ []) named j e r h u =
     let k = kind.Param in
     let cs = p ∷ [] in
     let ds = declared_of k (map meaning cs) in
     let ns = cond named (names_of k (map meaning cs)) [] in
     let zs = layer k cs named in
     (cover-sub p named zs (λ id h. sub-left ds ns id (sub-right (names p) (declared p) id h)) (λ is. (λ id h. sub-left ds ns id (sub-left (names p) (declared p) id h))), tt)
-layer-covered kind.Param shape [] named j e r h = tt
-layer-covered kind.Param shape (a₁ ∷ a₂ ∷ cs) named j e r h = absurd h.1
-layer-covered (kind.TsParamProp x y z) shape (p ∷ []) named j e r h =
+layer-covered kind.Param shape [] named j e r h u = tt
+layer-covered kind.Param shape (a₁ ∷ a₂ ∷ cs) named j e r h u = absurd h.1
+layer-covered (kind.TsParamProp x y z) shape (p ∷ []) named j e r h u =
     let k = kind.TsParamProp x y z in
     let cs = p ∷ [] in
     let ds = declared_of k (map meaning cs) in
     let ns = cond named (names_of k (map meaning cs)) [] in
     let zs = layer k cs named in
     (cover-sub p named zs (λ id h. sub-left ds ns id (sub-right (names p) (declared p) id h)) (λ is. (λ id h. sub-left ds ns id (sub-left (names p) (declared p) id h))), tt)
-layer-covered (kind.TsParamProp x y z) shape [] named j e r h = tt
-layer-covered (kind.TsParamProp x y z) shape (a₁ ∷ a₂ ∷ cs) named j e r h = absurd h.1
-layer-covered (kind.ArrowExpr x y) shape (ps ∷ body ∷ types ∷ type ∷ []) named j e r h =
+layer-covered (kind.TsParamProp x y z) shape [] named j e r h u = tt
+layer-covered (kind.TsParamProp x y z) shape (a₁ ∷ a₂ ∷ cs) named j e r h u = absurd h.1
+layer-covered (kind.ArrowExpr x y) shape (ps ∷ body ∷ types ∷ type ∷ []) named j e r h u =
     let k = kind.ArrowExpr x y in
     let cs = ps ∷ body ∷ types ∷ type ∷ [] in
     let ds = declared_of k (map meaning cs) in
     let ns = cond named (names_of k (map meaning cs)) [] in
     let zs = layer k cs named in
     (cover-sub ps true zs (λ id h. sub-left ds ns id (sub-right (names ps) ((declared ps) ++ (declared body)) id (sub-left (declared ps) (declared body) id h))) (λ is. (λ id h. sub-left ds ns id (sub-left (names ps) ((declared ps) ++ (declared body)) id h))), (unnamed body false zs refl (λ id h. sub-left ds ns id (sub-right (names ps) ((declared ps) ++ (declared body)) id (sub-right (declared ps) (declared body) id h))), (unnamed types false zs refl (sub-none _ zs (types-alone types h.1.1.0)), (unnamed type false zs refl (sub-none _ zs (type-alone type h.1.1.1.0)), tt))))
-layer-covered (kind.ArrowExpr x y) shape [] named j e r h = tt
-layer-covered (kind.ArrowExpr x y) shape (a₁ ∷ []) named j e r h = absurd h.1
-layer-covered (kind.ArrowExpr x y) shape (a₁ ∷ a₂ ∷ []) named j e r h = absurd h.1.1
-layer-covered (kind.ArrowExpr x y) shape (a₁ ∷ a₂ ∷ a₃ ∷ []) named j e r h = absurd h.1.1.1
-layer-covered (kind.ArrowExpr x y) shape (a₁ ∷ a₂ ∷ a₃ ∷ a₄ ∷ a₅ ∷ cs) named j e r h = absurd h.1.1.1.1
-layer-covered kind.SetterProp shape (key ∷ this ∷ p ∷ body ∷ []) named j e r h =
+layer-covered (kind.ArrowExpr x y) shape [] named j e r h u = tt
+layer-covered (kind.ArrowExpr x y) shape (a₁ ∷ []) named j e r h u = absurd h.1
+layer-covered (kind.ArrowExpr x y) shape (a₁ ∷ a₂ ∷ []) named j e r h u = absurd h.1.1
+layer-covered (kind.ArrowExpr x y) shape (a₁ ∷ a₂ ∷ a₃ ∷ []) named j e r h u = absurd h.1.1.1
+layer-covered (kind.ArrowExpr x y) shape (a₁ ∷ a₂ ∷ a₃ ∷ a₄ ∷ a₅ ∷ cs) named j e r h u = absurd h.1.1.1.1
+layer-covered kind.SetterProp shape (key ∷ this ∷ p ∷ body ∷ []) named j e r h u =
     let k = kind.SetterProp in
     let cs = key ∷ this ∷ p ∷ body ∷ [] in
     let ds = declared_of k (map meaning cs) in
     let ns = cond named (names_of k (map meaning cs)) [] in
     let zs = layer k cs named in
     (unnamed key false zs refl (λ id h. sub-left ds ns id (sub-left (declared key) ((names p) ++ ((declared p) ++ (declared body))) id h)), (unnamed this false zs refl (sub-none _ zs (absent-alone this r)), (cover-sub p true zs (λ id h. sub-left ds ns id (sub-right (declared key) ((names p) ++ ((declared p) ++ (declared body))) id (sub-right (names p) ((declared p) ++ (declared body)) id (sub-left (declared p) (declared body) id h)))) (λ is. (λ id h. sub-left ds ns id (sub-right (declared key) ((names p) ++ ((declared p) ++ (declared body))) id (sub-left (names p) ((declared p) ++ (declared body)) id h)))), (unnamed body false zs refl (λ id h. sub-left ds ns id (sub-right (declared key) ((names p) ++ ((declared p) ++ (declared body))) id (sub-right (names p) ((declared p) ++ (declared body)) id (sub-right (declared p) (declared body) id h)))), tt))))
-layer-covered kind.SetterProp shape [] named j e r h = tt
-layer-covered kind.SetterProp shape (a₁ ∷ []) named j e r h = absurd h.1
-layer-covered kind.SetterProp shape (a₁ ∷ a₂ ∷ []) named j e r h = absurd h.1.1
-layer-covered kind.SetterProp shape (a₁ ∷ a₂ ∷ a₃ ∷ []) named j e r h = absurd h.1.1.1
-layer-covered kind.SetterProp shape (a₁ ∷ a₂ ∷ a₃ ∷ a₄ ∷ a₅ ∷ cs) named j e r h = absurd h.1.1.1.1
-layer-covered kind.CatchClause shape (p ∷ body ∷ []) named j e r h =
+layer-covered kind.SetterProp shape [] named j e r h u = tt
+layer-covered kind.SetterProp shape (a₁ ∷ []) named j e r h u = absurd h.1
+layer-covered kind.SetterProp shape (a₁ ∷ a₂ ∷ []) named j e r h u = absurd h.1.1
+layer-covered kind.SetterProp shape (a₁ ∷ a₂ ∷ a₃ ∷ []) named j e r h u = absurd h.1.1.1
+layer-covered kind.SetterProp shape (a₁ ∷ a₂ ∷ a₃ ∷ a₄ ∷ a₅ ∷ cs) named j e r h u = absurd h.1.1.1.1
+layer-covered kind.CatchClause shape (p ∷ body ∷ []) named j e r h u =
     let k = kind.CatchClause in
     let cs = p ∷ body ∷ [] in
     let ds = declared_of k (map meaning cs) in
     let ns = cond named (names_of k (map meaning cs)) [] in
     let zs = layer k cs named in
     (cover-sub p true zs (λ id h. sub-left ds ns id (sub-right (names p) ((declared p) ++ (declared body)) id (sub-left (declared p) (declared body) id h))) (λ is. (λ id h. sub-left ds ns id (sub-left (names p) ((declared p) ++ (declared body)) id h))), (unnamed body false zs refl (λ id h. sub-left ds ns id (sub-right (names p) ((declared p) ++ (declared body)) id (sub-right (declared p) (declared body) id h))), tt))
-layer-covered kind.CatchClause shape [] named j e r h = tt
-layer-covered kind.CatchClause shape (a₁ ∷ []) named j e r h = absurd h.1
-layer-covered kind.CatchClause shape (a₁ ∷ a₂ ∷ a₃ ∷ cs) named j e r h = absurd h.1.1
-layer-covered (kind.FnDecl false) shape (name ∷ function ∷ []) named j e r h =
+layer-covered kind.CatchClause shape [] named j e r h u = tt
+layer-covered kind.CatchClause shape (a₁ ∷ []) named j e r h u = absurd h.1
+layer-covered kind.CatchClause shape (a₁ ∷ a₂ ∷ a₃ ∷ cs) named j e r h u = absurd h.1.1
+layer-covered (kind.FnDecl false) shape (name ∷ function ∷ []) named j e r h u =
     let k = kind.FnDecl false in
     let cs = name ∷ function ∷ [] in
     let ds = declared_of k (map meaning cs) in
     let ns = cond named (names_of k (map meaning cs)) [] in
     let zs = layer k cs named in
     (cover-sub name true zs (sub-none _ zs (ident-alone name h.0)) (λ is. (λ id h. sub-left ds ns id (sub-left (names name) (declared function) id h))), (unnamed function false zs refl (λ id h. sub-left ds ns id (sub-right (names name) (declared function) id h)), tt))
-layer-covered (kind.FnDecl false) shape [] named j e r h = tt
-layer-covered (kind.FnDecl false) shape (a₁ ∷ []) named j e r h = absurd h.1
-layer-covered (kind.FnDecl false) shape (a₁ ∷ a₂ ∷ a₃ ∷ cs) named j e r h = absurd h.1.1
-layer-covered kind.FnExpr shape (name ∷ function ∷ []) named j e r h =
+layer-covered (kind.FnDecl false) shape [] named j e r h u = tt
+layer-covered (kind.FnDecl false) shape (a₁ ∷ []) named j e r h u = absurd h.1
+layer-covered (kind.FnDecl false) shape (a₁ ∷ a₂ ∷ a₃ ∷ cs) named j e r h u = absurd h.1.1
+layer-covered kind.FnExpr shape (name ∷ function ∷ []) named j e r h u =
     let k = kind.FnExpr in
     let cs = name ∷ function ∷ [] in
     let ds = declared_of k (map meaning cs) in
     let ns = cond named (names_of k (map meaning cs)) [] in
     let zs = layer k cs named in
     (cover-sub name true zs (sub-none _ zs (own-alone name h.0)) (λ is. (λ id h. sub-left ds ns id (sub-left (names name) (declared function) id h))), (unnamed function false zs refl (λ id h. sub-left ds ns id (sub-right (names name) (declared function) id h)), tt))
-layer-covered kind.FnExpr shape [] named j e r h = tt
-layer-covered kind.FnExpr shape (a₁ ∷ []) named j e r h = absurd h.1
-layer-covered kind.FnExpr shape (a₁ ∷ a₂ ∷ a₃ ∷ cs) named j e r h = absurd h.1.1
-layer-covered (kind.ClassDecl false) shape (name ∷ class ∷ []) named j e r h =
+layer-covered kind.FnExpr shape [] named j e r h u = tt
+layer-covered kind.FnExpr shape (a₁ ∷ []) named j e r h u = absurd h.1
+layer-covered kind.FnExpr shape (a₁ ∷ a₂ ∷ a₃ ∷ cs) named j e r h u = absurd h.1.1
+layer-covered (kind.ClassDecl false) shape (name ∷ class ∷ []) named j e r h u =
     let k = kind.ClassDecl false in
     let cs = name ∷ class ∷ [] in
     let ds = declared_of k (map meaning cs) in
     let ns = cond named (names_of k (map meaning cs)) [] in
     let zs = layer k cs named in
     (cover-sub name true zs (sub-none _ zs (ident-alone name h.0)) (λ is. (λ id h. sub-left ds ns id (sub-left (names name) (declared class) id h))), (unnamed class false zs refl (λ id h. sub-left ds ns id (sub-right (names name) (declared class) id h)), tt))
-layer-covered (kind.ClassDecl false) shape [] named j e r h = tt
-layer-covered (kind.ClassDecl false) shape (a₁ ∷ []) named j e r h = absurd h.1
-layer-covered (kind.ClassDecl false) shape (a₁ ∷ a₂ ∷ a₃ ∷ cs) named j e r h = absurd h.1.1
-layer-covered kind.ClassExpr shape (name ∷ class ∷ []) named j e r h =
+layer-covered (kind.ClassDecl false) shape [] named j e r h u = tt
+layer-covered (kind.ClassDecl false) shape (a₁ ∷ []) named j e r h u = absurd h.1
+layer-covered (kind.ClassDecl false) shape (a₁ ∷ a₂ ∷ a₃ ∷ cs) named j e r h u = absurd h.1.1
+layer-covered kind.ClassExpr shape (name ∷ class ∷ []) named j e r h u =
     let k = kind.ClassExpr in
     let cs = name ∷ class ∷ [] in
     let ds = declared_of k (map meaning cs) in
     let ns = cond named (names_of k (map meaning cs)) [] in
     let zs = layer k cs named in
     (cover-sub name true zs (sub-none _ zs (own-alone name h.0)) (λ is. (λ id h. sub-left ds ns id (sub-left (names name) (declared class) id h))), (unnamed class false zs refl (λ id h. sub-left ds ns id (sub-right (names name) (declared class) id h)), tt))
-layer-covered kind.ClassExpr shape [] named j e r h = tt
-layer-covered kind.ClassExpr shape (a₁ ∷ []) named j e r h = absurd h.1
-layer-covered kind.ClassExpr shape (a₁ ∷ a₂ ∷ a₃ ∷ cs) named j e r h = absurd h.1.1
-layer-covered kind.ImportDefaultSpecifier shape (local ∷ []) named j e r h =
+layer-covered kind.ClassExpr shape [] named j e r h u = tt
+layer-covered kind.ClassExpr shape (a₁ ∷ []) named j e r h u = absurd h.1
+layer-covered kind.ClassExpr shape (a₁ ∷ a₂ ∷ a₃ ∷ cs) named j e r h u = absurd h.1.1
+layer-covered kind.ImportDefaultSpecifier shape (local ∷ []) named j e r h u =
     let k = kind.ImportDefaultSpecifier in
     let cs = local ∷ [] in
     let ds = declared_of k (map meaning cs) in
     let ns = cond named (names_of k (map meaning cs)) [] in
     let zs = layer k cs named in
     (cover-sub local true zs (sub-none _ zs (ident-alone local h.0)) (λ is. (λ id h. sub-left ds ns id h)), tt)
-layer-covered kind.ImportDefaultSpecifier shape [] named j e r h = tt
-layer-covered kind.ImportDefaultSpecifier shape (a₁ ∷ a₂ ∷ cs) named j e r h = absurd h.1
-layer-covered kind.ImportStarAsSpecifier shape (local ∷ []) named j e r h =
+layer-covered kind.ImportDefaultSpecifier shape [] named j e r h u = tt
+layer-covered kind.ImportDefaultSpecifier shape (a₁ ∷ a₂ ∷ cs) named j e r h u = absurd h.1
+layer-covered kind.ImportStarAsSpecifier shape (local ∷ []) named j e r h u =
     let k = kind.ImportStarAsSpecifier in
     let cs = local ∷ [] in
     let ds = declared_of k (map meaning cs) in
     let ns = cond named (names_of k (map meaning cs)) [] in
     let zs = layer k cs named in
     (cover-sub local true zs (sub-none _ zs (ident-alone local h.0)) (λ is. (λ id h. sub-left ds ns id h)), tt)
-layer-covered kind.ImportStarAsSpecifier shape [] named j e r h = tt
-layer-covered kind.ImportStarAsSpecifier shape (a₁ ∷ a₂ ∷ cs) named j e r h = absurd h.1
-layer-covered (kind.ImportNamedSpecifier false) shape (local ∷ name ∷ []) named j e r h =
+layer-covered kind.ImportStarAsSpecifier shape [] named j e r h u = tt
+layer-covered kind.ImportStarAsSpecifier shape (a₁ ∷ a₂ ∷ cs) named j e r h u = absurd h.1
+layer-covered (kind.ImportNamedSpecifier false) shape (local ∷ name ∷ []) named j e r h u =
     let k = kind.ImportNamedSpecifier false in
     let cs = local ∷ name ∷ [] in
     let ds = declared_of k (map meaning cs) in
     let ns = cond named (names_of k (map meaning cs)) [] in
     let zs = layer k cs named in
     (cover-sub local true zs (sub-none _ zs (ident-alone local h.0)) (λ is. (λ id h. sub-left ds ns id h)), (unnamed name false zs refl (sub-none _ zs (exported-alone name h.1.0)), tt))
-layer-covered (kind.ImportNamedSpecifier false) shape [] named j e r h = tt
-layer-covered (kind.ImportNamedSpecifier false) shape (a₁ ∷ []) named j e r h = absurd h.1
-layer-covered (kind.ImportNamedSpecifier false) shape (a₁ ∷ a₂ ∷ a₃ ∷ cs) named j e r h = absurd h.1.1
-layer-covered (kind.Function x y) shape (ps ∷ body ∷ types ∷ type ∷ []) named j e r h =
+layer-covered (kind.ImportNamedSpecifier false) shape [] named j e r h u = tt
+layer-covered (kind.ImportNamedSpecifier false) shape (a₁ ∷ []) named j e r h u = absurd h.1
+layer-covered (kind.ImportNamedSpecifier false) shape (a₁ ∷ a₂ ∷ a₃ ∷ cs) named j e r h u = absurd h.1.1
+layer-covered (kind.Function x y) shape (ps ∷ body ∷ types ∷ type ∷ []) named j e r h u =
     let h0 = h.0 in
     let k = kind.Function x y in
     let cs = ps ∷ body ∷ types ∷ type ∷ [] in
@@ -404,12 +415,12 @@ layer-covered (kind.Function x y) shape (ps ∷ body ∷ types ∷ type ∷ []) 
     let ns = cond named (names_of k (map meaning cs)) [] in
     let zs = layer k cs named in
     (cover-sub ps true zs (λ id h. sub-left ds ns id (sub-left (declared ps) ((declared body) ++ ((declared types) ++ ((declared type) ++ []))) id h)) (λ is. sub-then (names ps) (declared ps) zs (parameters ps h0) (λ id h. sub-left ds ns id (sub-left (declared ps) ((declared body) ++ ((declared types) ++ ((declared type) ++ []))) id h))), (unnamed body false zs refl (λ id h. sub-left ds ns id (sub-right (declared ps) ((declared body) ++ ((declared types) ++ ((declared type) ++ []))) id (sub-left (declared body) ((declared types) ++ ((declared type) ++ [])) id h))), (unnamed types false zs refl (λ id h. sub-left ds ns id (sub-right (declared ps) ((declared body) ++ ((declared types) ++ ((declared type) ++ []))) id (sub-right (declared body) ((declared types) ++ ((declared type) ++ [])) id (sub-left (declared types) ((declared type) ++ []) id h)))), (unnamed type false zs refl (λ id h. sub-left ds ns id (sub-right (declared ps) ((declared body) ++ ((declared types) ++ ((declared type) ++ []))) id (sub-right (declared body) ((declared types) ++ ((declared type) ++ [])) id (sub-right (declared types) ((declared type) ++ []) id (sub-left (declared type) [] id h))))), tt))))
-layer-covered (kind.Function x y) shape [] named j e r h = tt
-layer-covered (kind.Function x y) shape (a₁ ∷ []) named j e r h = absurd h.1
-layer-covered (kind.Function x y) shape (a₁ ∷ a₂ ∷ []) named j e r h = absurd h.1.1
-layer-covered (kind.Function x y) shape (a₁ ∷ a₂ ∷ a₃ ∷ []) named j e r h = absurd h.1.1.1
-layer-covered (kind.Function x y) shape (a₁ ∷ a₂ ∷ a₃ ∷ a₄ ∷ a₅ ∷ cs) named j e r h = absurd h.1.1.1.1
-layer-covered (kind.Constructor x y) shape (key ∷ ps ∷ body ∷ []) named j e r h =
+layer-covered (kind.Function x y) shape [] named j e r h u = tt
+layer-covered (kind.Function x y) shape (a₁ ∷ []) named j e r h u = absurd h.1
+layer-covered (kind.Function x y) shape (a₁ ∷ a₂ ∷ []) named j e r h u = absurd h.1.1
+layer-covered (kind.Function x y) shape (a₁ ∷ a₂ ∷ a₃ ∷ []) named j e r h u = absurd h.1.1.1
+layer-covered (kind.Function x y) shape (a₁ ∷ a₂ ∷ a₃ ∷ a₄ ∷ a₅ ∷ cs) named j e r h u = absurd h.1.1.1.1
+layer-covered (kind.Constructor x y) shape (key ∷ ps ∷ body ∷ []) named j e r h u =
     let h0 = h.1.0 in
     let k = kind.Constructor x y in
     let cs = key ∷ ps ∷ body ∷ [] in
@@ -417,79 +428,79 @@ layer-covered (kind.Constructor x y) shape (key ∷ ps ∷ body ∷ []) named j 
     let ns = cond named (names_of k (map meaning cs)) [] in
     let zs = layer k cs named in
     (unnamed key false zs refl (λ id h. sub-left ds ns id (sub-left (declared key) ((declared ps) ++ ((declared body) ++ [])) id h)), (cover-sub ps true zs (λ id h. sub-left ds ns id (sub-right (declared key) ((declared ps) ++ ((declared body) ++ [])) id (sub-left (declared ps) ((declared body) ++ []) id h))) (λ is. sub-then (names ps) (declared ps) zs (constructor-parameters ps h0) (λ id h. sub-left ds ns id (sub-right (declared key) ((declared ps) ++ ((declared body) ++ [])) id (sub-left (declared ps) ((declared body) ++ []) id h)))), (unnamed body false zs refl (λ id h. sub-left ds ns id (sub-right (declared key) ((declared ps) ++ ((declared body) ++ [])) id (sub-right (declared ps) ((declared body) ++ []) id (sub-left (declared body) [] id h)))), tt)))
-layer-covered (kind.Constructor x y) shape [] named j e r h = tt
-layer-covered (kind.Constructor x y) shape (a₁ ∷ []) named j e r h = absurd h.1
-layer-covered (kind.Constructor x y) shape (a₁ ∷ a₂ ∷ []) named j e r h = absurd h.1.1
-layer-covered (kind.Constructor x y) shape (a₁ ∷ a₂ ∷ a₃ ∷ a₄ ∷ cs) named j e r h = absurd h.1.1.1
-layer-covered kind.BindingIdent shape (p ∷ q ∷ []) named j e r h =
+layer-covered (kind.Constructor x y) shape [] named j e r h u = tt
+layer-covered (kind.Constructor x y) shape (a₁ ∷ []) named j e r h u = absurd h.1
+layer-covered (kind.Constructor x y) shape (a₁ ∷ a₂ ∷ []) named j e r h u = absurd h.1.1
+layer-covered (kind.Constructor x y) shape (a₁ ∷ a₂ ∷ a₃ ∷ a₄ ∷ cs) named j e r h u = absurd h.1.1.1
+layer-covered kind.BindingIdent shape (p ∷ q ∷ []) named j e r h u =
     let k = kind.BindingIdent in
     let cs = p ∷ q ∷ [] in
     let ds = declared_of k (map meaning cs) in
     let ns = cond named (names_of k (map meaning cs)) [] in
     let zs = layer k cs named in
     (cover-sub p named zs (λ id h. sub-left ds ns id (sub-left (declared p) ((declared q) ++ []) id h)) (λ is. named-names ds (names p) named is), (unnamed q false zs refl (λ id h. sub-left ds ns id (sub-right (declared p) ((declared q) ++ []) id (sub-left (declared q) [] id h))), tt))
-layer-covered kind.BindingIdent shape [] named j e r h = tt
-layer-covered kind.BindingIdent shape (a₁ ∷ []) named j e r h = absurd h.1
-layer-covered kind.BindingIdent shape (a₁ ∷ a₂ ∷ a₃ ∷ cs) named j e r h = absurd h.1.1
-layer-covered (kind.ArrayPat o) shape (p ∷ q ∷ []) named j e r h =
+layer-covered kind.BindingIdent shape [] named j e r h u = tt
+layer-covered kind.BindingIdent shape (a₁ ∷ []) named j e r h u = absurd h.1
+layer-covered kind.BindingIdent shape (a₁ ∷ a₂ ∷ a₃ ∷ cs) named j e r h u = absurd h.1.1
+layer-covered (kind.ArrayPat o) shape (p ∷ q ∷ []) named j e r h u =
     let k = kind.ArrayPat o in
     let cs = p ∷ q ∷ [] in
     let ds = declared_of k (map meaning cs) in
     let ns = cond named (names_of k (map meaning cs)) [] in
     let zs = layer k cs named in
     (cover-sub p named zs (λ id h. sub-left ds ns id (sub-left (declared p) ((declared q) ++ []) id h)) (λ is. named-names ds (names p) named is), (unnamed q false zs refl (λ id h. sub-left ds ns id (sub-right (declared p) ((declared q) ++ []) id (sub-left (declared q) [] id h))), tt))
-layer-covered (kind.ArrayPat o) shape [] named j e r h = tt
-layer-covered (kind.ArrayPat o) shape (a₁ ∷ []) named j e r h = absurd h.1
-layer-covered (kind.ArrayPat o) shape (a₁ ∷ a₂ ∷ a₃ ∷ cs) named j e r h = absurd h.1.1
-layer-covered (kind.ObjectPat o) shape (p ∷ q ∷ []) named j e r h =
+layer-covered (kind.ArrayPat o) shape [] named j e r h u = tt
+layer-covered (kind.ArrayPat o) shape (a₁ ∷ []) named j e r h u = absurd h.1
+layer-covered (kind.ArrayPat o) shape (a₁ ∷ a₂ ∷ a₃ ∷ cs) named j e r h u = absurd h.1.1
+layer-covered (kind.ObjectPat o) shape (p ∷ q ∷ []) named j e r h u =
     let k = kind.ObjectPat o in
     let cs = p ∷ q ∷ [] in
     let ds = declared_of k (map meaning cs) in
     let ns = cond named (names_of k (map meaning cs)) [] in
     let zs = layer k cs named in
     (cover-sub p named zs (λ id h. sub-left ds ns id (sub-left (declared p) ((declared q) ++ []) id h)) (λ is. named-names ds (names p) named is), (unnamed q false zs refl (λ id h. sub-left ds ns id (sub-right (declared p) ((declared q) ++ []) id (sub-left (declared q) [] id h))), tt))
-layer-covered (kind.ObjectPat o) shape [] named j e r h = tt
-layer-covered (kind.ObjectPat o) shape (a₁ ∷ []) named j e r h = absurd h.1
-layer-covered (kind.ObjectPat o) shape (a₁ ∷ a₂ ∷ a₃ ∷ cs) named j e r h = absurd h.1.1
-layer-covered kind.RestPat shape (p ∷ q ∷ []) named j e r h =
+layer-covered (kind.ObjectPat o) shape [] named j e r h u = tt
+layer-covered (kind.ObjectPat o) shape (a₁ ∷ []) named j e r h u = absurd h.1
+layer-covered (kind.ObjectPat o) shape (a₁ ∷ a₂ ∷ a₃ ∷ cs) named j e r h u = absurd h.1.1
+layer-covered kind.RestPat shape (p ∷ q ∷ []) named j e r h u =
     let k = kind.RestPat in
     let cs = p ∷ q ∷ [] in
     let ds = declared_of k (map meaning cs) in
     let ns = cond named (names_of k (map meaning cs)) [] in
     let zs = layer k cs named in
     (cover-sub p named zs (λ id h. sub-left ds ns id (sub-left (declared p) ((declared q) ++ []) id h)) (λ is. named-names ds (names p) named is), (unnamed q false zs refl (λ id h. sub-left ds ns id (sub-right (declared p) ((declared q) ++ []) id (sub-left (declared q) [] id h))), tt))
-layer-covered kind.RestPat shape [] named j e r h = tt
-layer-covered kind.RestPat shape (a₁ ∷ []) named j e r h = absurd h.1
-layer-covered kind.RestPat shape (a₁ ∷ a₂ ∷ a₃ ∷ cs) named j e r h = absurd h.1.1
-layer-covered kind.AssignPat shape (p ∷ q ∷ []) named j e r h =
+layer-covered kind.RestPat shape [] named j e r h u = tt
+layer-covered kind.RestPat shape (a₁ ∷ []) named j e r h u = absurd h.1
+layer-covered kind.RestPat shape (a₁ ∷ a₂ ∷ a₃ ∷ cs) named j e r h u = absurd h.1.1
+layer-covered kind.AssignPat shape (p ∷ q ∷ []) named j e r h u =
     let k = kind.AssignPat in
     let cs = p ∷ q ∷ [] in
     let ds = declared_of k (map meaning cs) in
     let ns = cond named (names_of k (map meaning cs)) [] in
     let zs = layer k cs named in
     (cover-sub p named zs (λ id h. sub-left ds ns id (sub-left (declared p) ((declared q) ++ []) id h)) (λ is. named-names ds (names p) named is), (unnamed q false zs refl (λ id h. sub-left ds ns id (sub-right (declared p) ((declared q) ++ []) id (sub-left (declared q) [] id h))), tt))
-layer-covered kind.AssignPat shape [] named j e r h = tt
-layer-covered kind.AssignPat shape (a₁ ∷ []) named j e r h = absurd h.1
-layer-covered kind.AssignPat shape (a₁ ∷ a₂ ∷ a₃ ∷ cs) named j e r h = absurd h.1.1
-layer-covered kind.AssignPatProp shape (p ∷ q ∷ []) named j e r h =
+layer-covered kind.AssignPat shape [] named j e r h u = tt
+layer-covered kind.AssignPat shape (a₁ ∷ []) named j e r h u = absurd h.1
+layer-covered kind.AssignPat shape (a₁ ∷ a₂ ∷ a₃ ∷ cs) named j e r h u = absurd h.1.1
+layer-covered kind.AssignPatProp shape (p ∷ q ∷ []) named j e r h u =
     let k = kind.AssignPatProp in
     let cs = p ∷ q ∷ [] in
     let ds = declared_of k (map meaning cs) in
     let ns = cond named (names_of k (map meaning cs)) [] in
     let zs = layer k cs named in
     (cover-sub p named zs (λ id h. sub-left ds ns id (sub-left (declared p) ((declared q) ++ []) id h)) (λ is. named-names ds (names p) named is), (unnamed q false zs refl (λ id h. sub-left ds ns id (sub-right (declared p) ((declared q) ++ []) id (sub-left (declared q) [] id h))), tt))
-layer-covered kind.AssignPatProp shape [] named j e r h = tt
-layer-covered kind.AssignPatProp shape (a₁ ∷ []) named j e r h = absurd h.1
-layer-covered kind.AssignPatProp shape (a₁ ∷ a₂ ∷ a₃ ∷ cs) named j e r h = absurd h.1.1
-layer-covered kind.KeyValuePatProp shape (key ∷ p ∷ []) named j e r h =
+layer-covered kind.AssignPatProp shape [] named j e r h u = tt
+layer-covered kind.AssignPatProp shape (a₁ ∷ []) named j e r h u = absurd h.1
+layer-covered kind.AssignPatProp shape (a₁ ∷ a₂ ∷ a₃ ∷ cs) named j e r h u = absurd h.1.1
+layer-covered kind.KeyValuePatProp shape (key ∷ p ∷ []) named j e r h u =
     let k = kind.KeyValuePatProp in
     let cs = key ∷ p ∷ [] in
     let ds = declared_of k (map meaning cs) in
     let ns = cond named (names_of k (map meaning cs)) [] in
     let zs = layer k cs named in
     (unnamed key false zs refl (λ id h. sub-left ds ns id (sub-left (declared key) ((declared p) ++ []) id h)), (cover-sub p named zs (λ id h. sub-left ds ns id (sub-right (declared key) ((declared p) ++ []) id (sub-left (declared p) [] id h))) (λ is. named-names ds (names p) named is), tt))
-layer-covered kind.KeyValuePatProp shape [] named j e r h = tt
-layer-covered kind.KeyValuePatProp shape (a₁ ∷ []) named j e r h = absurd h.1
-layer-covered kind.KeyValuePatProp shape (a₁ ∷ a₂ ∷ a₃ ∷ cs) named j e r h = absurd h.1.1
-layer-covered k shape cs named j e r h =
+layer-covered kind.KeyValuePatProp shape [] named j e r h u = tt
+layer-covered kind.KeyValuePatProp shape (a₁ ∷ []) named j e r h u = absurd h.1
+layer-covered kind.KeyValuePatProp shape (a₁ ∷ a₂ ∷ a₃ ∷ cs) named j e r h u = absurd h.1.1
+layer-covered k shape cs named j e r h u =
     all-covered k named (layer k cs named) 0 cs (all-unnamed k named (λ i. refl) 0 cs) (each-declared cs (layer k cs named) (sub-left (all_declared (map meaning cs)) (cond named (names_of k (map meaning cs)) [])))

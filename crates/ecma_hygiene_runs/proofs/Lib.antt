@@ -13,4 +13,5 @@ mod Specifiers
 mod Sorted
 mod Seeking
 mod Covering
+mod Last
 mod Declaring

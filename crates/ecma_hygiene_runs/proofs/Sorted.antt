@@ -1,5 +1,5 @@
 -- In a sorted tree the names in patterns are names; written out, with what it exports apart, it has keys in imports and exports alone, which are no variables.
-use Rattle.std.proofs.Common.{◌≡◌, refl, sym, ap, ◌∙◌, subst, ℕ, suc, List, [], ◌∷◌, map, length, Bool, true, false, cond, not, ◌||◌}
+use Rattle.std.proofs.Common.{◌≡◌, refl, sym, ap, ◌∙◌, subst, ℕ, suc, List, [], ◌∷◌, map, length, Bool, true, false, cond, not, ◌&&◌, ◌||◌}
 use Rattle.std.specs.List.{list_all}
 use Rattle.ecma_kind.specs.Sorts.{belongs}
 use Rattle.ecma_kind.specs.declared.kind.Kind.{Kind}
@@ -7,7 +7,7 @@ use Rattle.ecma_kind.specs.declared.kind.Kind.TheVariants as kind
 use Rattle.ecma_kind.specs.declared.shapes.Shape.{Shape}
 use Rattle.ecma_kind.specs.declared.shapes.Sort.TheVariants as sort
 use Rattle.ecma_kind.specs.declared.span.Span.{Span}
-use Rattle.ecma_tree.specs.declared.node.Node.{Node, ind-Node, out-Node}
+use Rattle.ecma_tree.specs.declared.node.Node.{Node, fold-roll-Node, ind-Node, out-Node}
 use Rattle.ecma_tree.specs.Laws.{HaveShapes}
 use Rattle.ecma_tree.specs.Nodes.{node_of}
 use Rattle.ecma_tree.specs.Sorted.{HasShape, allows, child_shapes, is_absent, many, maybe, one}
@@ -23,7 +23,7 @@ use Rattle.ecma_hygiene_runs.specs.ExportsApart.{exports_apart, specifiers_apart
 use Rattle.ecma_hygiene_runs.specs.FinalTexts.{all_named, has_name, is_outer}
 use Rattle.ecma_hygiene_runs.specs.KeyNames.{at_names, key_names, key_names_in}
 use Rattle.ecma_hygiene_runs.specs.Laws.{SortedNamesAreOuter}
-use Rattle.ecma_hygiene_runs.specs.OuterNames.{has_outer_names_at}
+use Rattle.ecma_hygiene_runs.specs.OuterNames.{exports_import_by, has_no_exported_import, has_outer_names_at, no_exported_import_step}
 use Rattle.ecma_hygiene_runs.specs.WrittenOut.{key_node, other_out, out_by, properties_out, written_out}
 use Rattle.ecma_hygiene_runs.proofs.Apart.{apart-of}
 use Rattle.ecma_hygiene_runs.proofs.FinalParts.{Named, named, named-out, pattern-out}
@@ -108,37 +108,37 @@ exports-keys r span t specifiers source attributes hs ho o ks ka =
         subst (λ b. NoKeys (cond b (specifiers_apart (shown specifiers)) (shown specifiers))) (sym (shown-flag is_absent refl source ∙ e))
         (specifiers-sourced specifiers hs (specifiers-outer r t specifiers source attributes o false e))
 
-layer-keys : (r : Role) (span : Span) (k : Kind) (shape : Shape) (cs : List Node) → is_specifier shape ≡ false → allows shape k ≡ true → HaveShapes (child_shapes k shape (length cs)) cs → Outer r k cs → Below (child_shapes k shape (length cs)) cs
+layer-keys : (r : Role) (span : Span) (k : Kind) (shape : Shape) (cs : List Node) → exports_import_by k ≡ false → is_specifier shape ≡ false → allows shape k ≡ true → HaveShapes (child_shapes k shape (length cs)) cs → Outer r k cs → Below (child_shapes k shape (length cs)) cs
     → NoKeys (exports_apart (out_by k (map written_out cs) (parts_of span k (map written_out cs))))
-layer-keys r span kind.ObjectLit shape (p ∷ []) e a h o below =
+layer-keys r span kind.ObjectLit shape (p ∷ []) u e a h o below =
     subst NoKeys (sym (apart-of span kind.ObjectLit (properties_out (written_out p) ∷ [])))
     (no-keys span kind.ObjectLit (exports_apart (properties_out (written_out p)) ∷ []) (subst Empty (sym (object-here p h.0)) tt) (subst Empty (sym (object-all p h.0)) (below.0 refl), tt))
-layer-keys r span kind.ObjectLit shape [] e a h o below = absurd h
-layer-keys r span kind.ObjectLit shape (p ∷ q ∷ others) e a h o below = absurd h.1
-layer-keys r span kind.AssignPatProp shape (name ∷ default ∷ []) e a h o below =
+layer-keys r span kind.ObjectLit shape [] u e a h o below = absurd h
+layer-keys r span kind.ObjectLit shape (p ∷ q ∷ others) u e a h o below = absurd h.1
+layer-keys r span kind.AssignPatProp shape (name ∷ default ∷ []) u e a h o below =
     pattern-keys span name default (has-by kind.AssignPatProp shape (name ∷ default ∷ []) h) (below.0 refl) (below.1.0 refl)
-layer-keys r span kind.AssignPatProp shape [] e a h o below = absurd h
-layer-keys r span kind.AssignPatProp shape (x ∷ []) e a h o below = absurd h.1
-layer-keys r span kind.AssignPatProp shape (x ∷ y ∷ z ∷ others) e a h o below = absurd h.1.1
-layer-keys r span (kind.ImportNamedSpecifier t) shape (name ∷ other ∷ []) e a h o below =
+layer-keys r span kind.AssignPatProp shape [] u e a h o below = absurd h
+layer-keys r span kind.AssignPatProp shape (x ∷ []) u e a h o below = absurd h.1
+layer-keys r span kind.AssignPatProp shape (x ∷ y ∷ z ∷ others) u e a h o below = absurd h.1.1
+layer-keys r span (kind.ImportNamedSpecifier t) shape (name ∷ other ∷ []) u e a h o below =
     subst NoKeys (sym (apart-of span (kind.ImportNamedSpecifier t) (written_out name ∷ other_out (written_out name) (written_out other) ∷ [])))
     (import-keys span t name other (below.0 refl) (others name other h.1.0 (ident-name (out-Node name).kind (shape_out (one sort.Ident) name h.0).0) (import-outer r t name other o)))
-layer-keys r span (kind.ImportNamedSpecifier t) shape [] e a h o below = absurd h
-layer-keys r span (kind.ImportNamedSpecifier t) shape (x ∷ []) e a h o below = absurd h.1
-layer-keys r span (kind.ImportNamedSpecifier t) shape (x ∷ y ∷ z ∷ others) e a h o below = absurd h.1.1
-layer-keys r span (kind.ExportNamedSpecifier t) shape cs e a h o below = absurd (true-false (specifier-shape shape (kind.ExportNamedSpecifier t) a refl) e)
-layer-keys r span kind.ExportNamespaceSpecifier shape cs e a h o below = absurd (true-false (specifier-shape shape kind.ExportNamespaceSpecifier a refl) e)
-layer-keys r span (kind.NamedExport t) shape (specifiers ∷ source ∷ attributes ∷ []) e a h o below =
+layer-keys r span (kind.ImportNamedSpecifier t) shape [] u e a h o below = absurd h
+layer-keys r span (kind.ImportNamedSpecifier t) shape (x ∷ []) u e a h o below = absurd h.1
+layer-keys r span (kind.ImportNamedSpecifier t) shape (x ∷ y ∷ z ∷ others) u e a h o below = absurd h.1.1
+layer-keys r span (kind.ExportNamedSpecifier t) shape cs u e a h o below = absurd (true-false (specifier-shape shape (kind.ExportNamedSpecifier t) a refl) e)
+layer-keys r span kind.ExportNamespaceSpecifier shape cs u e a h o below = absurd (true-false (specifier-shape shape kind.ExportNamespaceSpecifier a refl) e)
+layer-keys r span (kind.NamedExport t) shape (specifiers ∷ source ∷ attributes ∷ []) u e a h o below =
     exports-keys r span t specifiers source attributes h.0 h.1.0 o (below.1.0 refl) (below.1.1.0 refl)
-layer-keys r span (kind.NamedExport t) shape [] e a h o below = absurd h
-layer-keys r span (kind.NamedExport t) shape (x ∷ []) e a h o below = absurd h.1
-layer-keys r span (kind.NamedExport t) shape (x ∷ y ∷ []) e a h o below = absurd h.1.1
-layer-keys r span (kind.NamedExport t) shape (x ∷ y ∷ z ∷ u ∷ others) e a h o below = absurd h.1.1.1
-layer-keys r span (kind.Class is_abstract) shape (super ∷ body ∷ types ∷ super_types ∷ implements ∷ []) e a h o below =
+layer-keys r span (kind.NamedExport t) shape [] u e a h o below = absurd h
+layer-keys r span (kind.NamedExport t) shape (x ∷ []) u e a h o below = absurd h.1
+layer-keys r span (kind.NamedExport t) shape (x ∷ y ∷ []) u e a h o below = absurd h.1.1
+layer-keys r span (kind.NamedExport t) shape (x ∷ y ∷ z ∷ v ∷ others) u e a h o below = absurd h.1.1.1
+layer-keys r span (kind.Class is_abstract) shape (super ∷ body ∷ types ∷ super_types ∷ implements ∷ []) u e a h o below =
     let k = kind.Class is_abstract in
     let cs = super ∷ body ∷ types ∷ super_types ∷ implements ∷ [] in
     plain-keys span k cs (apart-of span k (map written_out cs)) (subst Empty (sym (body-here body h.1.0)) tt) (every k shape cs e refl h below)
-layer-keys r span (kind.ImportDecl type_only) shape (specifiers ∷ source ∷ attributes ∷ []) e a h o below =
+layer-keys r span (kind.ImportDecl type_only) shape (specifiers ∷ source ∷ attributes ∷ []) u e a h o below =
     let k = kind.ImportDecl type_only in
     let cs = specifiers ∷ source ∷ attributes ∷ [] in
     plain-keys span k cs (apart-of span k (map written_out cs)) (subst Empty (sym (here-out source (text-kind (out-Node source).kind (shape_out (one sort.Str) source h.1.0).0))) tt) (every k shape cs e refl h below)
@@ -146,32 +146,38 @@ layer-keys r span (kind.ImportDecl type_only) shape (specifiers ∷ source ∷ a
     text-kind : (k : Kind) → belongs sort.Str k ≡ true → no_here k ≡ true
     text-kind (kind.Str text raw) e = refl
     text-kind _ e = absurd (cc)
-layer-keys r span k shape cs e a h o below = plain-keys span k cs (apart-of span k (map written_out cs)) tt (every k shape cs e refl h below)
+layer-keys r span (kind.TsImportEqualsDecl true false) shape cs u e a h o below = absurd (true-false refl u)
+layer-keys r span k shape cs u e a h o below = plain-keys span k cs (apart-of span k (map written_out cs)) tt (every k shape cs e refl h below)
 
 abbrev Keyless : Node → Type 0
-Keyless n = (shape : Shape) → is_specifier shape ≡ false → HasShape shape n → (r : Role) → has_outer_names_at n r ≡ true → NoKeys (shown n)
+Keyless n = (shape : Shape) → is_specifier shape ≡ false → HasShape shape n → (r : Role) → has_outer_names_at n r ≡ true → has_no_exported_import n ≡ true → NoKeys (shown n)
 
 all-keyless : (ns : List ((n : Node) × Keyless n)) (shapes : List Shape) (roles : ℕ → Role) (i : ℕ) → HaveShapes shapes (map (λ e. e.0) ns) → all_named roles i (map has_outer_names_at (map (λ e. e.0) ns)) ≡ true
-    → Below shapes (map (λ e. e.0) ns)
-all-keyless [] [] roles i h o = tt
-all-keyless [] (shape ∷ shapes) roles i h o = tt
-all-keyless (n ∷ ns) [] roles i h o = tt
-all-keyless (n ∷ ns) (shape ∷ shapes) roles i h o =
+    → list_all (λ b. b) (map has_no_exported_import (map (λ e. e.0) ns)) ≡ true → Below shapes (map (λ e. e.0) ns)
+all-keyless [] [] roles i h o u = tt
+all-keyless [] (shape ∷ shapes) roles i h o u = tt
+all-keyless (n ∷ ns) [] roles i h o u = tt
+all-keyless (n ∷ ns) (shape ∷ shapes) roles i h o u =
     let a = has_outer_names_at n.0 (roles i) in
     let b = all_named roles (suc i) (map has_outer_names_at (map (λ e. e.0) ns)) in
-    (λ e. n.1 shape e h.0 (roles i) (and-left a b o), all-keyless ns shapes roles (suc i) h.1 (and-right a b o))
+    let c = has_no_exported_import n.0 in
+    let d = list_all (λ b. b) (map has_no_exported_import (map (λ e. e.0) ns)) in
+    (λ e. n.1 shape e h.0 (roles i) (and-left a b o) (and-left c d u), all-keyless ns shapes roles (suc i) h.1 (and-right a b o) (and-right c d u))
 
 keyless : (n : Node) → Keyless n
-keyless = ind-Node Keyless (λ x y is shape e h r o.
+keyless = ind-Node Keyless (λ x y is shape e h r o u.
     let s = (node_has_shape x.span x.kind x.children shape).0 h in
     let a = is_outer (is_name r) x.kind in
     let b = all_named (role_by r x.kind (is_there x.children 1)) 0 (map has_outer_names_at x.children) in
     let outer : b ≡ true = and-right a b (sym (outer-roll x r) ∙ o) in
+    let c = not (exports_import_by x.kind) in
+    let d = list_all (λ b. b) (map has_no_exported_import x.children) in
+    let none : c && d ≡ true = sym (fold-roll-Node Bool no_exported_import_step x) ∙ u in
     let below = subst (λ cs. HaveShapes (child_shapes x.kind shape (length x.children)) cs → all_named (role_by r x.kind (is_there x.children 1)) 0 (map has_outer_names_at cs) ≡ true
-    → Below (child_shapes x.kind shape (length x.children)) cs) (ap (λ z. z.children) is)
-    (all-keyless y.children (child_shapes x.kind shape (length x.children)) (role_by r x.kind (is_there x.children 1)) 0) s.1 outer in
-    subst NoKeys (sym (ap exports_apart (out-roll x))) (layer-keys r x.span x.kind shape x.children e s.0 s.1 outer below))
+    → list_all (λ b. b) (map has_no_exported_import cs) ≡ true → Below (child_shapes x.kind shape (length x.children)) cs) (ap (λ z. z.children) is)
+    (all-keyless y.children (child_shapes x.kind shape (length x.children)) (role_by r x.kind (is_there x.children 1)) 0) s.1 outer (and-right c d none) in
+    subst NoKeys (sym (ap exports_apart (out-roll x))) (layer-keys r x.span x.kind shape x.children (not-specifier (exports_import_by x.kind) (and-left c d none)) e s.0 s.1 outer below))
 
 pub sorted_names_are_outer : SortedNamesAreOuter
-sorted_names_are_outer tree h o =
-    record { named = names-fine tree (one sort.Module) h role.Root o; keys = empty-all (key_names_in (shown tree)) (keyless tree (one sort.Module) refl h role.Root o) }
+sorted_names_are_outer tree h o u =
+    record { named = names-fine tree (one sort.Module) h role.Root o; keys = empty-all (key_names_in (shown tree)) (keyless tree (one sort.Module) refl h role.Root o u) }

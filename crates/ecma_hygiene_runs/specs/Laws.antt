@@ -19,14 +19,14 @@ use Rattle.ecma_kind.specs.declared.shapes.Sort.TheVariants as sort
 use Rattle.ecma_tree.specs.Sorted.{HasSort}
 use Rattle.ecma_hygiene_runs.specs.WrittenOut.{written_out}
 use Rattle.ecma_hygiene_runs.specs.Resolved.{IsResolved, KeepsApart}
-use Rattle.ecma_hygiene_runs.specs.OuterNames.{has_outer_names, NamesAreOuter}
+use Rattle.ecma_hygiene_runs.specs.OuterNames.{has_no_exported_import, has_outer_names, NamesAreOuter}
 use Rattle.ecma_hygiene_runs.specs.Plain.{is_plain}
 use Rattle.ecma_hygiene_runs.specs.Exports.{KeepsExportedTexts}
 
--- in a sorted module whose names outside of variables have the empty context, patterns have names, and keys beside shorthands and beside variables that are
+-- in a sorted module whose names outside of variables have the empty context, and that exports no import, whose name is a variable and a key, patterns have names, and keys beside shorthands and beside variables that are
 -- exported have that context
 abbrev pub SortedNamesAreOuter : Type 0
-SortedNamesAreOuter = (tree : Node) → HasSort sort.Module tree → has_outer_names tree ≡ true → NamesAreOuter tree
+SortedNamesAreOuter = (tree : Node) → HasSort sort.Module tree → has_outer_names tree ≡ true → has_no_exported_import tree ≡ true → NamesAreOuter tree
 
 -- each binding of a plain module is declared where the module runs
 abbrev pub BindingsAreDeclared : Type 0

@@ -28,7 +28,7 @@ pub fn reading_again_keeps_runs()
     ensures { ReadingAgainKeepsRuns }
 {}
 
-/// In a tree with the sort of a module in which what is no name of a variable has the empty context, shorthand patterns have names, and with the
+/// In a tree with the sort of a module that exports no import, in which what is no name of a variable has the empty context, shorthand patterns have names, and with the
 /// shorthands written out, and apart from the variables that it exports, the keys that are names have the empty context.
 pub fn sorted_names_are_outer()
     ensures { SortedNamesAreOuter }

@@ -1,4 +1,3 @@
 pub mod Interface
 pub mod Names
 pub mod Reading
-pub mod Laws

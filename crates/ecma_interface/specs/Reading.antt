@@ -3,7 +3,7 @@ use Rattle.std.specs.Prelude.{ℕ, Bool, true, false, not, ◌&&◌, cond, List,
 use Rattle.ecma_kind.specs.declared.kind.Kind.{Kind}
 use Rattle.ecma_kind.specs.declared.kind.Kind.TheVariants as kind
 use Rattle.ecma_tree.specs.declared.node.Node.{Node, out-Node}
-use Rattle.ecma_rules.specs.Children.{has_child, items_at, kind_of}
+use Rattle.ecma_rules.specs.Children.{child_is, has_child, items_at, kind_of}
 use Rattle.ecma_strip.specs.Staying.{stays}
 use Rattle.ecma_interface.specs.Interface.{Again, AllNames, AsObject, Attribute, ByName, Export, Import, ImportEntry, Imported, Interface, NameAs, ObjectAs, ReExport, Request}
 use Rattle.ecma_interface.specs.Names.{Id, bound_names}
@@ -67,6 +67,11 @@ bound_of (Some node) = bound_names node
 abbrev pub bound_at : Node → ℕ → List Id
 bound_at node i = bound_of (slice_get (out-Node node).children i)
 
+-- the right side of an import is `require("m")`
+abbrev pub is_required : Kind → Bool
+is_required kind.TsExternalModuleRef = true
+is_required _ = false
+
 module _ (text_of : Id → List ℕ) where
   abbrev pub variable_by : Kind → List ℕ
   variable_by (kind.Ident sym ctxt optional) = text_of (sym, ctxt)
@@ -116,13 +121,15 @@ module _ (text_of : Id → List ℕ) where
   abbrev pub export_specifier : Node → List Export
   export_specifier specifier = export_specifier_by (kind_of specifier) specifier
 
-  -- 16.2.3.4 ExportEntries, of the names of the module itself; `export import a = b.c` declares a constant
+  -- 16.2.3.4 ExportEntries, of the names of the module itself. An alias is a constant that is exported; a required module is written to `exports` when the module runs,
+  -- and is no export of it
+  --   export import a = b.c; export import d = require("m");   // a for a
   abbrev pub export_by : Kind → Node → List Export
   export_by kind.ExportDecl item = map by_its_name (bound_at item 0)
   export_by kind.ExportDefaultDecl item = default_of (bound_at item 0)
   export_by kind.ExportDefaultExpr item = default_of []
   export_by (kind.NamedExport false) item = cond (has_child item 1) [] (flat_map export_specifier (items_at item 0))
-  export_by (kind.TsImportEqualsDecl true false) item = map by_its_name (bound_at item 0)
+  export_by (kind.TsImportEqualsDecl true false) item = cond (child_is is_required item 1) [] (map by_its_name (bound_at item 0))
   export_by _ item = []
 
   abbrev pub export : Node → List Export
@@ -154,7 +161,3 @@ interface_of text_of tree = record {
 -- by their own texts
 abbrev pub own_text : Id → List ℕ
 own_text id = id.0
-
--- nothing is imported, and nothing exported
-abbrev pub nothing : Interface
-nothing = record { imports = []; re_exports = []; exports = [] }

@@ -12,8 +12,8 @@ use Rattle.ecma_rules.specs.Children.{kind_of}
 use Rattle.ecma_strip.specs.Staying.{is_declared}
 use Rattle.ecma_interface.specs.Interface.{Export}
 use Rattle.ecma_interface.specs.Names.{Id, all_ids, bound_by, bound_names, bound_step}
-use Rattle.ecma_interface.specs.Reading.{by_its_name, said_by, said_of, variable_by, variable_of}
-use Rattle.ecma_interface_laws.proofs.Looking.{Always, All, ByAny, ByFirst, BySecond, First, Nothing, Pick, Second, Value, Wants, WantsValue, bound_is, dull_binds, dull_is_value, dull_not_declared, dull_not_named, dull_not_told, dull_says, dull_there, is_dull, is_told, matters, pick, picked, told_not_named, unnamed_variable, value_is, value_of, value_wanted, valued, wanted}
+use Rattle.ecma_interface.specs.Reading.{by_its_name, is_required, said_by, said_of, variable_by, variable_of}
+use Rattle.ecma_interface_laws.proofs.Looking.{Always, All, ByAny, ByFirst, BySecond, First, Nothing, Pick, Second, Value, Wants, WantsValue, bound_is, dull_binds, dull_is_value, dull_not_declared, dull_not_named, dull_not_required, dull_not_told, dull_says, dull_there, is_dull, is_told, matters, pick, picked, told_not_named, unnamed_variable, value_is, value_of, value_wanted, valued, wanted}
 
 abbrev pub children_of : Node → List Node
 children_of n = (out-Node n).children
@@ -83,6 +83,12 @@ module _ (text other : Id → List ℕ) (R : Node → Node → Type 0) where
   declared_step quoted = refl
   declared_step (dull {k} {l} h g) = dull_not_declared l g ∙ sym (dull_not_declared k h)
   declared_step (same t r) = refl
+
+  pub required_step : {k l : Kind} {cs ds : List Node} → Step k l cs ds → is_required l ≡ is_required k
+  required_step (named e n) = refl
+  required_step quoted = refl
+  required_step (dull {k} {l} h g) = dull_not_required l g ∙ sym (dull_not_required k h)
+  required_step (same t r) = refl
 
   variable_told : (k : Kind) → is_told k ≡ true → variable_by other k ≡ variable_by text k
   variable_told k t = unnamed_variable other k (told_not_named k t) ∙ sym (unnamed_variable text k (told_not_named k t))

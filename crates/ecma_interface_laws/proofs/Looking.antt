@@ -9,7 +9,7 @@ use Rattle.ecma_tree.specs.Values.{value_by}
 use Rattle.ecma_tree.proofs.Valuing.{value_where_by}
 use Rattle.ecma_strip.specs.Staying.{is_declared}
 use Rattle.ecma_interface.specs.Names.{Id, all_ids, bound_by}
-use Rattle.ecma_interface.specs.Reading.{said_by, variable_by}
+use Rattle.ecma_interface.specs.Reading.{is_required, said_by, variable_by}
 
 -- a kind that binds, says, exports or imports something, or is no value, but for identifiers and texts; and those of properties
 unfoldable pub is_told : Kind → Bool
@@ -51,6 +51,7 @@ is_told kind.ExportDefaultDecl = true
 is_told kind.ExportDefaultExpr = true
 is_told (kind.ExportAll type_only) = true
 is_told (kind.TsImportEqualsDecl is_export is_type_only) = true
+is_told kind.TsExternalModuleRef = true
 is_told kind.ObjectLit = true
 is_told kind.SpreadElement = true
 is_told kind.KeyValueProp = true
@@ -107,7 +108,7 @@ matters kind.ImportStarAsSpecifier i = i == 0
 matters kind.ExportDecl i = i == 0
 matters kind.ExportNamespaceSpecifier i = i == 0
 matters kind.ExportDefaultDecl i = i == 0
-matters (kind.TsImportEqualsDecl is_export is_type_only) i = i == 0
+matters (kind.TsImportEqualsDecl is_export is_type_only) i = (i == 0) || (i == 1)
 matters kind.ObjectLit i = i == 0
 matters kind.SpreadElement i = (i == 0) || (i == 1)
 matters _ i = false
@@ -279,6 +280,11 @@ dull_not_declared (kind.VarDecl k declare) h = cc
 dull_not_declared (kind.TsEnumDecl declare is_const) h = cc
 dull_not_declared (kind.TsModuleDecl declare global) h = cc
 dull_not_declared _ h = refl
+
+pub dull_not_required : (k : Kind) → is_dull k ≡ true → is_required k ≡ false
+unfolding is_told is_dull
+dull_not_required kind.TsExternalModuleRef h = cc
+dull_not_required _ h = refl
 
 pub dull_not_told : (k : Kind) → is_dull k ≡ true → is_told k ≡ true → ⊥
 unfolding is_told is_dull

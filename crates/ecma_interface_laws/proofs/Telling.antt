@@ -12,12 +12,12 @@ use Rattle.ecma_tree.specs.Laws.{HaveShapes}
 use Rattle.ecma_tree.specs.Sorted.{HasShape, HasSort, allows, child_shapes, is_list, many, maybe, one}
 use Rattle.ecma_tree.specs.Values.{is_value}
 use Rattle.ecma_tree.proofs.ShapeLaws.{node_has_shape}
-use Rattle.ecma_rules.specs.Children.{children_of as items_of, has_child, is_present, items_at, kind_of, of_kind}
+use Rattle.ecma_rules.specs.Children.{child_is, children_of as items_of, has_child, is_present, items_at, kind_of, of_kind}
 use Rattle.ecma_strip.specs.Staying.{if_there, is_ambient, is_declared, is_empty_stmt, is_export, is_this, is_this_by, is_this_param, is_this_param_by, item_stays, member_stays, member_stays_by, specifier_stays, stays}
 use Rattle.ecma_interface.specs.Interface.{AllNames, AsObject, ByName, Export, NameAs, ObjectAs}
 use Rattle.ecma_interface.specs.Names.{Id}
-use Rattle.ecma_interface.specs.Reading.{again, again_by, attribute, attributes_of, bound_at, bound_of, by_its_name, default_of, export_by, export_specifier, export_specifier_by, import_by, import_entry, import_entry_by, interface_of, re_export_by, request_at, said_at, said_of, second_name, variable_at}
-use Rattle.ecma_interface_laws.proofs.Alike.{Alike, Related, RelatedAt, Step, children_of, declared_step, dull, named, quoted, related_at, said_there, same, shown_same, there_step, told_step, value_same, variable_there}
+use Rattle.ecma_interface.specs.Reading.{again, again_by, attribute, attributes_of, bound_at, bound_of, by_its_name, default_of, export_by, export_specifier, export_specifier_by, import_by, import_entry, import_entry_by, interface_of, is_required, re_export_by, request_at, said_at, said_of, second_name, variable_at}
+use Rattle.ecma_interface_laws.proofs.Alike.{Alike, Related, RelatedAt, Step, children_of, declared_step, dull, named, quoted, related_at, required_step, said_there, same, shown_same, there_step, told_step, value_same, variable_there}
 use Rattle.ecma_interface_laws.proofs.Items.{IsSilent, SameItem, SameItems, Tells, interface_same}
 use Rattle.ecma_interface_laws.proofs.Looking.{dull_not_named, dull_not_told, is_dull, is_named, is_told, matters}
 
@@ -312,6 +312,15 @@ module _ (text other : Id → List ℕ) (R : Node → Node → Type 0) (alike : 
   has_same : (k : Kind) (a b : Node) → Related R (matters k) (children_of a) (children_of b) → (i : ℕ) → matters k i ≡ true → has_child b i ≡ has_child a i
   has_same k a b r i e = present_there (slice_get (children_of a) i) (slice_get (children_of b) i) (related_at R (matters k) (children_of a) (children_of b) r i e)
 
+  required_there : (o p : Option Node) → RelatedAt R o p → of_kind is_required p ≡ of_kind is_required o
+  required_there None None r = refl
+  required_there None (Some d) r = absurd r
+  required_there (Some c) None r = absurd r
+  required_there (Some c) (Some d) r = required_step text other R (alike c d r)
+
+  required_same : (k : Kind) (a b : Node) → Related R (matters k) (children_of a) (children_of b) → (i : ℕ) → matters k i ≡ true → child_is is_required b i ≡ child_is is_required a i
+  required_same k a b r i e = required_there (slice_get (children_of a) i) (slice_get (children_of b) i) (related_at R (matters k) (children_of a) (children_of b) r i e)
+
   second_same : (k : Kind) (a b : Node) → Related R (matters k) (children_of a) (children_of b) → matters k 0 ≡ true → matters k 1 ≡ true → second_name b ≡ second_name a
   second_same k a b r e f = λ j. cond (has_same k a b r 1 f j) (said_child k a b r 1 f j) (said_child k a b r 0 e j)
 
@@ -501,7 +510,9 @@ module _ (text other : Id → List ℕ) (R : Node → Node → Type 0) (alike : 
       let request = request_same k a b r 0 1 refl refl (λ c at. child_shaped a s k e 1 (maybe sort.ObjectLit) (λ z n. refl) c at) in
       (refl, ap (λ q. record { request = q; entries = AllNames ∷ [] } ∷ []) request, refl)
   telling_by (kind.TsImportEqualsDecl true true) a b s e i r = (refl, refl, refl)
-  telling_by (kind.TsImportEqualsDecl true false) a b s e i r = (refl, refl, bound_same (kind.TsImportEqualsDecl true false) a b r refl)
+  telling_by (kind.TsImportEqualsDecl true false) a b s e i r =
+      let k = kind.TsImportEqualsDecl true false in
+      (refl, refl, ap₂ (λ (q : Bool) (es : List Export). cond q [] es) (required_same k a b r 1 refl) (bound_same k a b r refl))
   telling_by (kind.TsImportEqualsDecl false true) a b s e i r = (refl, refl, refl)
   telling_by (kind.TsImportEqualsDecl false false) a b s e i r = (refl, refl, refl)
   telling_by _ a b s e i r = cc

@@ -12,7 +12,7 @@ use Rattle.ecma_judge.proofs.Judging.{effects-out}
 use Rattle.ecma_runs.specs.Environment.{ToValue}
 use Rattle.ecma_runs.specs.Meaning.{ExecutionContext, Meaning}
 use Rattle.ecma_runs.specs.Declarations.{has_no_effect}
-use Rattle.ecma_runs.specs.Evaluation.{role_by, ending_chain, no_effect, meaning_by, meaning}
+use Rattle.ecma_runs.specs.Evaluation.{role_by, ending_chain, no_effect, constant_meaning, set_export, meaning_by, meaning}
 use Rattle.ecma_runs.proofs.Layer.{meaning-roll}
 use Rattle.ecma_judge_runs.specs.Taken.{is_taken, is_taken_by, is_taken_step}
 use Rattle.ecma_judge_runs.proofs.Leaving.{bind_leaves, give_by, give_leaves, outside_leaves}
@@ -84,6 +84,9 @@ module _ (ctx : ExprCtx) (off : ctx.is_unresolved_ref_safe ≡ false) (x : Execu
   layer_makes n kind.TsTypeParamInstantiation ns = no_effect_makes n
   layer_makes n kind.TsQualifiedName (left ∷ right ∷ []) = no_effect_makes n
   layer_makes n (kind.TsImportEqualsDecl false false) (name ∷ source ∷ []) = no_effect_makes n
+  layer_makes n (kind.TsImportEqualsDecl true false) (name ∷ source ∷ []) =
+      either_makes (meaning source.0).is_required (constant_meaning n (meaning name.0) (set_export n (meaning name.0) (meaning source.0)))
+      (role_by n kind.ExportDecl (constant_meaning n (meaning name.0) (meaning source.0) ∷ [])) (no_effect_makes n) (no_effect_makes n)
   layer_makes n k ns = either_makes (has_no_effect k (meanings ctx x ns)) (no_effect n) (role_by n k (meanings ctx x ns)) (no_effect_makes n) (λ sort home old scope. made_leaves ctx off x n k (meanings ctx x ns) sort home old scope)
 
   role_quiet : (n : Node) (k : Kind) (ns : List (Claimed ctx x)) → HasNone ctx x n k ns → IsTaken ctx x k ns → Quiet x (role_by n k (meanings ctx x ns))
@@ -112,7 +115,7 @@ module _ (ctx : ExprCtx) (off : ctx.is_unresolved_ref_safe ≡ false) (x : Execu
   layer_quiet n kind.TsTypeParamDecl ns none taken = absurd (cc)
   layer_quiet n kind.TsTypeParamInstantiation ns none taken = absurd (cc)
   layer_quiet n kind.TsQualifiedName (left ∷ right ∷ []) none taken = absurd (cc)
-  layer_quiet n (kind.TsImportEqualsDecl false false) (name ∷ source ∷ []) none taken = absurd (cc)
+  layer_quiet n (kind.TsImportEqualsDecl is_export false) (name ∷ source ∷ []) none taken = absurd (cc)
   layer_quiet n k ns none taken = either_quiet (has_no_effect k (meanings ctx x ns)) (no_effect_quiet n) (role_quiet n k ns none taken)
 
   -- all nodes

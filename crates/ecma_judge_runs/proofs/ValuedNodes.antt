@@ -24,7 +24,7 @@ use Rattle.ecma_runs.specs.Declarations.{has_no_effect}
 use Rattle.ecma_runs.specs.Classes.{class_in, class_made_of, heritage, field_activation, keep_field_keys}
 use Rattle.ecma_runs.specs.Environment.{empty, new_environment, set_all}
 use Rattle.ecma_runs.specs.Functions.{new_prototype, new_function, prototype_entries}
-use Rattle.ecma_runs.specs.Evaluation.{role_by, no_effect, meaning_by, meaning}
+use Rattle.ecma_runs.specs.Evaluation.{role_by, no_effect, constant_meaning, set_export, meaning_by, meaning}
 use Rattle.ecma_runs.proofs.Layer.{meaning-roll}
 use Rattle.ecma_judge_runs.specs.Known.{HasTruth, HasNumber, HasText, HasType, IsAsJudged, ConstructsObjects, Marks, marks, marks_by, marks_step, is_valued_by, is_assignable_by, declares_no_global}
 use Rattle.ecma_judge_runs.proofs.Giving.{GivesBy, CameFrom, came_from, then_gives, any_gives, weaker_gives, give_gives, outside_gives}
@@ -81,6 +81,9 @@ module _ (ctx : ExprCtx) (objects : Bool) (x : ExecutionContext) (known : object
   layer_class n kind.TsTypeParamInstantiation ns names = outside_gives
   layer_class n kind.TsQualifiedName (left ∷ right ∷ []) names = outside_gives
   layer_class n (kind.TsImportEqualsDecl false false) (name ∷ source ∷ []) names = outside_gives
+  layer_class n (kind.TsImportEqualsDecl true false) (name ∷ source ∷ []) names =
+      either_class (meaning source.0).is_required (constant_meaning n (meaning name.0) (set_export n (meaning name.0) (meaning source.0)))
+      (role_by n kind.ExportDecl (constant_meaning n (meaning name.0) (meaning source.0) ∷ [])) names outside_gives outside_gives
   layer_class n k ns names = either_class (has_no_effect k (meanings ctx objects x ns)) (no_effect n) (role_by n k (meanings ctx objects x ns)) names outside_gives (class_gives n k (meanings ctx objects x ns) names)
 
   -- what is assigned is given
@@ -104,6 +107,12 @@ module _ (ctx : ExprCtx) (objects : Bool) (x : ExecutionContext) (known : object
   layer_assigned n (kind.TsImportEqualsDecl false false) (name ∷ source ∷ []) is get =
       assigned_passes x n (kind.VarDecl Const false)
       (role_by n kind.List (role_by n (kind.VarDeclarator false) (role_by n kind.BindingIdent (meaning name.0 ∷ role_by n kind.Absent [] ∷ []) ∷ meaning source.0 ∷ []) ∷ []) ∷ []) [] refl (CameFrom get) get (came_from get)
+  layer_assigned n (kind.TsImportEqualsDecl true false) (name ∷ source ∷ []) is get =
+      either_assigned (meaning source.0).is_required (constant_meaning n (meaning name.0) (set_export n (meaning name.0) (meaning source.0)))
+      (role_by n kind.ExportDecl (constant_meaning n (meaning name.0) (meaning source.0) ∷ [])) (CameFrom get) get
+      (assigned_passes x n (kind.VarDecl Const false)
+      (role_by n kind.List (role_by n (kind.VarDeclarator false) (role_by n kind.BindingIdent (meaning name.0 ∷ role_by n kind.Absent [] ∷ []) ∷ set_export n (meaning name.0) (meaning source.0) ∷ []) ∷ []) ∷ []) [] refl (CameFrom get) get (came_from get))
+      (assigned_passes x n kind.ExportDecl (constant_meaning n (meaning name.0) (meaning source.0) ∷ []) [] refl (CameFrom get) get (came_from get))
   layer_assigned n k ns is get =
       either_assigned (has_no_effect k (meanings ctx objects x ns)) (no_effect n) (role_by n k (meanings ctx objects x ns)) (CameFrom get) get
       (assigned_passes x n (kind.TsTypeAliasDecl false) [] [] refl (CameFrom get) get (came_from get)) (assigned_passes x n k (meanings ctx objects x ns) (all_marks ctx objects x ns) is (CameFrom get) get (came_from get))
@@ -129,6 +138,7 @@ module _ (ctx : ExprCtx) (objects : Bool) (x : ExecutionContext) (known : object
     layer_value n kind.TsTypeParamDecl ns shape is = outside_gives
     layer_value n kind.TsTypeParamInstantiation ns shape is = outside_gives
     layer_value n kind.TsQualifiedName (left ∷ right ∷ []) shape is = any_gives (λ v. record { truth = tt; number = tt; text = tt; type = tt })
+    layer_value n (kind.TsImportEqualsDecl true false) (name ∷ source ∷ []) shape is = any_gives (λ v. record { truth = tt; number = tt; text = tt; type = tt })
     layer_value n (kind.TsImportEqualsDecl false false) (name ∷ source ∷ []) shape is = any_gives (λ v. record { truth = tt; number = tt; text = tt; type = tt })
     layer_value n k ns shape is = either_value (has_no_effect k (meanings ctx objects x ns)) (Fits ctx own n k (judgements ctx objects x ns)) (no_effect n) (role_by n k (meanings ctx objects x ns)) outside_gives (value_gives ctx objects x known apart own n k ns shape is)
 

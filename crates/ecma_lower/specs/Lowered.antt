@@ -17,3 +17,7 @@ headed None tree = tree
 --   import fs = require("fs"); export = fs; fs.f();   // const fs = require("fs"); fs.f(); module.exports = fs;
 abbrev pub transformed : TsImportExportAssignConfig → ℕ → Option Head → Node → Node
 transformed assign unresolved head tree = headed head (with_assignments (names_of assign unresolved head) (with_exports_last tree))
+
+-- without a head: where no `require` is made
+abbrev pub with_assignments_lowered : TsImportExportAssignConfig → ℕ → Node → Node
+with_assignments_lowered assign unresolved tree = transformed assign unresolved None tree

@@ -16,4 +16,4 @@ mod writing;
 pub use checking::check_lowering;
 pub use error::LowerError;
 pub use marking::{has_module_declaration, mark_module};
-pub use pass::{TransformPass, transform};
+pub use pass::{TransformPass, lower_assignments, transform};

@@ -4,8 +4,10 @@ ghost use Rattle.std.specs.List.{list_any};
 ghost use Rattle.ecma_scope.specs.Drawing.{HasGivenAtMost};
 ghost use Rattle.ecma_lower.specs.Assignments.{is_required_import};
 ghost use Rattle.ecma_lower.specs.Items.{items_of};
-ghost use Rattle.ecma_lower.specs.Lowered.{transformed};
-ghost use Rattle.ecma_lower.specs.Names.{drawn_for, head_of, makes_require};
+ghost use Rattle.ecma_lower.specs.Lowered.{transformed, with_assignments_lowered};
+ghost use Rattle.ecma_lower.specs.Moving.{with_exports_last};
+ghost use Rattle.ecma_lower.specs.Names.{drawn_for, head_of, makes_require, names_of};
+ghost use Rattle.ecma_lower.specs.Writing.{with_assignments};
 
 use crate::assignment::is_required_import;
 use crate::head::{Head, put_head};
@@ -13,7 +15,7 @@ use crate::moving::put_exports_last;
 use crate::names::names_of;
 use crate::writing::write_assignments;
 use ecma_config::TsImportExportAssignConfig;
-use ecma_tree::{Mark, Module, Node, PassError, Session};
+use ecma_tree::{Mark, Module, NoMemory, Node, PassError, Session};
 use std::alloc::Global;
 
 /// The pass that lowers a module: [`TransformPass::visit_mut_module`] runs it.
@@ -91,6 +93,34 @@ fn draw_head(
     Ok(Some(Head { create, required }))
 }
 
+/// Moves each `export =` to the end of a module, and writes its assignments by the names of an option and a head.
+fn write_with(
+    alloc: Global,
+    assign: TsImportExportAssignConfig,
+    unresolved: Mark,
+    head: &Option<Head>,
+    tree: &mut Module,
+) -> Result<(), NoMemory>
+    ensures { OnOk result (tree.new ≡ with_assignments (names_of assign unresolved head.now) (with_exports_last tree.old)) }
+{
+    let names = names_of(alloc, assign, unresolved, head)?;
+    put_exports_last(alloc, tree)?;
+    write_assignments(alloc, &names, tree)
+}
+
+/// Writes the assignments of a module for which no `require` is made (docs/LOWERING.md is the table); its free names have the context of `unresolved`. No
+/// context is drawn. After want of memory the tree may be half done.
+pub fn lower_assignments(
+    alloc: Global,
+    assign: TsImportExportAssignConfig,
+    unresolved: Mark,
+    tree: &mut Module,
+) -> Result<(), NoMemory>
+    ensures { OnOk result (tree.new ≡ with_assignments_lowered assign unresolved tree.old) }
+{
+    write_with(alloc, assign, unresolved, &None, tree)
+}
+
 impl TransformPass {
     /// Writes the assignments of a module (docs/LOWERING.md is the table). `Spent` comes only where two contexts are needed and the session has not as many;
     /// after a refusal the tree may be half done.
@@ -107,9 +137,7 @@ impl TransformPass {
         ensures pass { self.new ≡ self.old }
     {
         let head = draw_head(alloc, session, self.assign, tree)?;
-        let names = names_of(alloc, self.assign, self.unresolved, &head)?;
-        put_exports_last(alloc, tree)?;
-        write_assignments(alloc, &names, tree)?;
+        write_with(alloc, self.assign, self.unresolved, &head, tree)?;
         if let Some(head) = head {
             put_head(alloc, head, tree)?;
         }

@@ -20,11 +20,10 @@ use Rattle.ecma_strip_rewriting.proofs.Stays.{kind-roll, stays-roll}
 use Rattle.ecma_lower.specs.declared.names.Names.{Names}
 use Rattle.ecma_lower.specs.declared.seat.Seat.TheVariants as seat
 use Rattle.ecma_lower.specs.Assignments.{is_export_assignment, is_export_by, is_import_by, is_required, is_required_import}
-use Rattle.ecma_lower.specs.Seats.{seat_in}
-use Rattle.ecma_lower.specs.Writing.{export_of, import_of, written}
+use Rattle.ecma_lower.specs.Writing.{export_of, import_of}
 use Rattle.ecma_lower.proofs.Singles.{write}
 use Rattle.ecma_lower_strip.proofs.Plain.{Lasts, PlainNames, export-lasts, front-roll, front_by, import-lasts, is_front, lasts-so, plain-node, plain-written-export, plain-written-import, written-export-lasts, written-import-lasts}
-use Rattle.ecma_lower_strip.proofs.Resting.{one-child, required-kept, rest-stays, rests, sides-commute, two-children, unwritten, write-roll}
+use Rattle.ecma_lower_strip.proofs.Resting.{export-out, import-out, one-child, required-kept, rest-stays, rests, sides-commute, two-children}
 
 -- ---- what an item is
 
@@ -52,7 +51,7 @@ item-kind kind.TsInstantiation h = no h
 item-kind kind.TsSatisfiesExpr h = no h
 item-kind _ h = inl refl
 
-rolled : (n : Node) (k : Kind) → (out-Node n).kind ≡ k → n ≡ node_of (out-Node n).span k (out-Node n).children
+pub rolled : (n : Node) (k : Kind) → (out-Node n).kind ≡ k → n ≡ node_of (out-Node n).span k (out-Node n).children
 rolled n k is = sym (roll-out-Node n) ∙ ap (λ z. node_of (out-Node n).span z (out-Node n).children) is
 
 item-by : (n : Node) → HaveShapes (child_shapes (out-Node n).kind (one sort.ModuleItem) (length (out-Node n).children)) (out-Node n).children
@@ -131,16 +130,6 @@ module _ (names : Names) (plains : PlainNames names) where
   abbrev to : Node → Node
   to = write names seat.Item
 
-  import-out : (span : Span) (e : Bool) (a b : Node) → to (node_of span (as_import e) (a ∷ b ∷ [])) ≡ import_of names (is_required (out-Node b).kind) e span (a ∷ write names seat.Value b ∷ [])
-  unfolding written seat_in
-  import-out span e a b =
-      write-roll names seat.Item span (as_import e) (a ∷ b ∷ []) refl
-      ∙ ap (λ z. import_of names (is_required (out-Node b).kind) e span (z ∷ write names seat.Value b ∷ [])) (unwritten names a)
-
-  export-out : (span : Span) (e : Node) → to (node_of span kind.TsExportAssignment (e ∷ [])) ≡ export_of names.free span (e ∷ [])
-  unfolding written seat_in
-  export-out span e = write-roll names seat.Item span kind.TsExportAssignment (e ∷ []) refl ∙ ap (λ z. export_of names.free span (z ∷ [])) (unwritten names e)
-
   -- of an item and what stands for it without types, where both last and so does what is written of them
   lasting : (n m : Node) → stripped n ≡ m → Lasts n → Lasts m → Lasts (to n) → Lasts (to m) → to m ≡ stripped (to n) → Alike names n
   lasting n m is here bare there bare-there same = record {
@@ -157,9 +146,9 @@ module _ (names : Names) (plains : PlainNames names) where
       let m = node_of span (as_import e) (stripped a ∷ stripped b ∷ []) in
       let q = is_required (out-Node b).kind in
       let v = write names seat.Value b in
-      let there : to n ≡ import_of names q e span (a ∷ v ∷ []) = import-out span e a b in
+      let there : to n ≡ import_of names q e span (a ∷ v ∷ []) = import-out names span e a b in
       let bare-there : to m ≡ import_of names q e span (stripped a ∷ stripped v ∷ []) =
-      import-out span e (stripped a) (stripped b)
+      import-out names span e (stripped a) (stripped b)
       ∙ ap (λ r. import_of names r e span (stripped a ∷ write names seat.Value (stripped b) ∷ [])) (required-kept b hb)
       ∙ ap (λ w. import_of names q e span (stripped a ∷ w ∷ [])) (sides-commute names plains b hb) in
       lasting n m (plain-import span e a b) (import-lasts span e (a ∷ b ∷ [])) (import-lasts span e (stripped a ∷ stripped b ∷ []))
@@ -171,8 +160,8 @@ module _ (names : Names) (plains : PlainNames names) where
   export-alike span e =
       let n = node_of span kind.TsExportAssignment (e ∷ []) in
       let m = node_of span kind.TsExportAssignment (stripped e ∷ []) in
-      let there : to n ≡ export_of names.free span (e ∷ []) = export-out span e in
-      let bare-there : to m ≡ export_of names.free span (stripped e ∷ []) = export-out span (stripped e) in
+      let there : to n ≡ export_of names.free span (e ∷ []) = export-out names span e in
+      let bare-there : to m ≡ export_of names.free span (stripped e ∷ []) = export-out names span (stripped e) in
       lasting n m (plain-export span e) (export-lasts span (e ∷ [])) (export-lasts span (stripped e ∷ []))
       (lasts-so (to n) (export_of names.free span (e ∷ [])) there (written-export-lasts names.free span e))
       (lasts-so (to m) (export_of names.free span (stripped e ∷ [])) bare-there (written-export-lasts names.free span (stripped e)))

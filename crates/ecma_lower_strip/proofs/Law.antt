@@ -1,59 +1,48 @@
 -- Assignments are written before types are stripped or after.
-use Rattle.std.proofs.Common.{◌≡◌, ◌∙◌, ℕ, ◌-◌, Bool, true, false, cond, codes, refl, sym, ap, ap₂, subst, List, [], ◌∷◌, map, filter, length, replicate, Option, Some, None}
+use Rattle.std.proofs.Common.{◌≡◌, ◌∙◌, ℕ, ◌-◌, Bool, true, false, cond, codes, refl, sym, ap, ap₂, subst, List, [], ◌∷◌, map, filter, Option, Some, None}
 use Rattle.std.specs.List.{list_any}
 use Rattle.std.specs.Option.{option_map}
 use Rattle.ecma_config.specs.declared.config.TsImportExportAssignConfig.{TsImportExportAssignConfig}
 use Rattle.ecma_config.specs.declared.config.TsImportExportAssignConfig.TheVariants as way
-use Rattle.ecma_kind.specs.Sorts.{belongs}
 use Rattle.ecma_kind.specs.declared.ident.Ident.{Ident}
-use Rattle.ecma_kind.specs.declared.kind.Kind.{Kind}
 use Rattle.ecma_kind.specs.declared.kind.Kind.TheVariants as kind
 use Rattle.ecma_kind.specs.declared.operators.MetaPropKind.TheVariants.{ImportMeta}
-use Rattle.ecma_kind.specs.declared.shapes.Sort.TheVariants as sort
 use Rattle.ecma_kind.specs.declared.span.Span.{Span}
 use Rattle.ecma_tree.specs.Idents.{ident_node}
-use Rattle.ecma_tree.specs.Laws.{HaveShapes}
 use Rattle.ecma_tree.specs.Nodes.{absent, dummy_span, list_node, node_of}
-use Rattle.ecma_tree.specs.Sorted.{HasSort, child_shapes, many, one}
 use Rattle.ecma_tree.specs.Values.{value_by}
-use Rattle.ecma_tree.specs.declared.node.Node.{Node, Node-F, out-Node}
-use Rattle.ecma_tree.specs.declared.node.Node.TheViews.{out-roll-Node, roll-out-Node}
+use Rattle.ecma_tree.specs.declared.node.Node.{Node, Node-F}
+use Rattle.ecma_tree.specs.declared.node.Node.TheViews.{out-roll-Node}
 use Rattle.ecma_utils.specs.Expressions.{call_of, key_of, member_of}
 use Rattle.ecma_utils.specs.Quotes.{name_of, quoted_ident, text_of}
-use Rattle.ecma_rewriting.proofs.Equations.{list-kind}
 use Rattle.ecma_strip.specs.Staying.{is_declared, specifier_stays, stays}
 use Rattle.ecma_strip.specs.Stripping.{plain, plain_children, plain_kind, stripped, without_empty}
 use Rattle.ecma_strip_rewriting.specs.Commuting.{is_full}
 use Rattle.ecma_strip_rewriting.proofs.Commuting.{stripped-absent}
-use Rattle.ecma_strip_rewriting.proofs.PlainKinds.{full-roll, no, shape-out, stripped-list, stripped-other}
+use Rattle.ecma_strip_rewriting.proofs.PlainKinds.{full-roll, stripped-list, stripped-other}
 use Rattle.ecma_strip_rewriting.proofs.Stays.{stays-roll}
 use Rattle.ecma_lower.specs.declared.head.Head.{Head}
 use Rattle.ecma_lower.specs.declared.names.Names.{Names}
 use Rattle.ecma_lower.specs.declared.seat.Seat.TheVariants as seat
 use Rattle.ecma_lower.specs.Assignments.{is_required_import}
 use Rattle.ecma_lower.specs.Heads.{behind_directives, create_import, create_specifier, require_constant, url_of_module}
-use Rattle.ecma_lower.specs.Items.{first_with, in_items, items_by, items_of}
+use Rattle.ecma_lower.specs.Items.{items_of}
 use Rattle.ecma_lower.specs.Lowered.{headed, transformed}
 use Rattle.ecma_lower.specs.Moving.{exports_last}
 use Rattle.ecma_lower.specs.Names.{head_by, makes_require, names_of}
-use Rattle.ecma_lower.specs.Seats.{seat_in}
-use Rattle.ecma_lower.specs.Writing.{with_assignments, written}
-use Rattle.ecma_lower.proofs.Singles.{each_at, write}
+use Rattle.ecma_lower.specs.Writing.{with_assignments}
+use Rattle.ecma_lower.proofs.Singles.{write}
 use Rattle.ecma_lower_strip.specs.Converting.{lowered}
 use Rattle.ecma_lower_strip.specs.Laws.{AssignmentsBeforeOrAfter, KeepsFront, in_front}
 use Rattle.ecma_lower_strip.proofs.Items.{keeps, keeps-so}
 use Rattle.ecma_lower_strip.proofs.Lists.{AreItems, bare, bare-is, bare-moved, bare-put, bare-requires, bare-written, front, front-bare-written, front-put, front-written, items-moved}
+use Rattle.ecma_lower_strip.proofs.Modules.{as_list, as_module, module-form, module-in, module-items, module-written}
 use Rattle.ecma_lower_strip.proofs.Plain.{PlainNames, constants, constants-last, is_front, plain-bound, plain-call, plain-constants, plain-key, plain-list, plain-member, plain-name, plain-node, plain-text}
-use Rattle.ecma_lower_strip.proofs.Resting.{one-child, write-roll}
 
 -- ---- a module, by the list of its items
 
 empty-roll : (place : Span) (ns : List Node) → without_empty (node_of place kind.List ns) ≡ node_of place kind.List (filter is_full ns)
 empty-roll place ns = let parts : Node-F Node = record { span = place; kind = kind.List; children = ns } in ap (λ (z : Node-F Node). node_of z.span z.kind (filter is_full z.children)) (out-roll-Node parts)
-
-each-item : (names : Names) (ns : List Node) → each_at (write names) (λ i. seat.Item) ns ≡ map (write names seat.Item) ns
-each-item names [] = refl
-each-item names (n ∷ ns) = ap (λ z. write names seat.Item n ∷ z) (each-item names ns)
 
 -- the items behind their head, if they have one
 abbrev with_front : Option Head → List Node → List Node
@@ -61,57 +50,34 @@ with_front None ns = ns
 with_front (Some head) ns = behind_directives (create_import head.create) (behind_directives (require_constant head) ns)
 
 module _ (span : Span) (shebang : Option (List ℕ)) (place : Span) where
-  abbrev as_list : List Node → Node
-  as_list ns = node_of place kind.List ns
+  abbrev of_items : List Node → Node
+  of_items = as_module span shebang place
 
-  abbrev as_module : List Node → Node
-  as_module ns = node_of span (kind.Module shebang) (as_list ns ∷ [])
-
-  abbrev whole : List Node → Node-F Node
-  whole ns = record { span = span; kind = kind.Module shebang; children = as_list ns ∷ [] }
-
-  abbrev inside : List Node → Node-F Node
-  inside ns = record { span = place; kind = kind.List; children = ns }
-
-  module-stripped : (ns : List Node) → stripped (as_module ns) ≡ as_module (bare ns)
+  module-stripped : (ns : List Node) → stripped (of_items ns) ≡ of_items (bare ns)
   unfolding plain plain_kind plain_children
   module-stripped ns =
-      stripped-other span (kind.Module shebang) (as_list ns ∷ []) refl
+      stripped-other span (kind.Module shebang) (as_list span shebang place ns ∷ []) refl
       ∙ ap (λ z. node_of span (kind.Module shebang) (without_empty z ∷ [])) (stripped-list place ns)
       ∙ ap (λ z. node_of span (kind.Module shebang) (z ∷ [])) (empty-roll place (map stripped (filter stays ns)))
-      ∙ ap as_module (bare-is ns)
+      ∙ ap of_items (bare-is ns)
 
-  module-items : (ns : List Node) → items_of (as_module ns) ≡ ns
-  module-items ns = ap (λ (z : Node-F Node). items_by z.children) (out-roll-Node (whole ns)) ∙ ap (λ (z : Node-F Node). z.children) (out-roll-Node (inside ns))
-
-  module-in : (f : List Node → List Node) (ns : List Node) → in_items f (as_module ns) ≡ as_module (f ns)
-  module-in f ns =
-      ap (λ (z : Node-F Node). node_of z.span z.kind (first_with (f (items_by z.children)) z.children)) (out-roll-Node (whole ns))
-      ∙ ap (λ (z : Node-F Node). node_of span (kind.Module shebang) (node_of z.span z.kind (f z.children) ∷ [])) (out-roll-Node (inside ns))
-
-  module-written : (names : Names) (ns : List Node) → with_assignments names (as_module ns) ≡ as_module (map (write names seat.Item) ns)
-  unfolding written seat_in
-  module-written names ns =
-      write-roll names seat.Whole span (kind.Module shebang) (as_list ns ∷ []) refl
-      ∙ ap (λ z. node_of span (kind.Module shebang) (z ∷ [])) (write-roll names seat.Item place kind.List ns refl ∙ ap as_list (each-item names ns))
-
-  headed-module : (head : Option Head) (ns : List Node) → headed head (as_module ns) ≡ as_module (with_front head ns)
+  headed-module : (head : Option Head) (ns : List Node) → headed head (of_items ns) ≡ of_items (with_front head ns)
   headed-module None ns = refl
-  headed-module (Some head) ns = module-in (λ items. behind_directives (create_import head.create) (behind_directives (require_constant head) items)) ns
+  headed-module (Some head) ns = module-in span shebang place (λ items. behind_directives (create_import head.create) (behind_directives (require_constant head) items)) ns
 
   transformed-module : (assign : TsImportExportAssignConfig) (unresolved : ℕ) (head : Option Head) (ns : List Node)
-      → transformed assign unresolved head (as_module ns) ≡ as_module (with_front head (map (write (names_of assign unresolved head) seat.Item) (exports_last ns)))
+      → transformed assign unresolved head (of_items ns) ≡ of_items (with_front head (map (write (names_of assign unresolved head) seat.Item) (exports_last ns)))
   transformed-module assign unresolved head ns =
       let names = names_of assign unresolved head in
-      ap (λ z. headed head (with_assignments names z)) (module-in exports_last ns)
-      ∙ ap (headed head) (module-written names (exports_last ns))
+      ap (λ z. headed head (with_assignments names z)) (module-in span shebang place exports_last ns)
+      ∙ ap (headed head) (module-written span shebang place names (exports_last ns))
       ∙ headed-module head (map (write names seat.Item) (exports_last ns))
 
-  moved-front : (ns : List Node) → in_front (as_module ns) ≡ front (exports_last ns)
-  moved-front ns = ap (λ z. front (items_of z)) (module-in exports_last ns) ∙ ap front (module-items (exports_last ns))
+  moved-front : (ns : List Node) → in_front (of_items ns) ≡ front (exports_last ns)
+  moved-front ns = ap (λ z. front (items_of z)) (module-in span shebang place exports_last ns) ∙ ap front (module-items span shebang place (exports_last ns))
 
-  makes-same : (assign : TsImportExportAssignConfig) (ns : List Node) → AreItems ns → makes_require assign (as_module (bare ns)) ≡ makes_require assign (as_module ns)
-  makes-same way.NodeNext ns items = ap (list_any is_required_import) (module-items (bare ns)) ∙ bare-requires ns items ∙ sym (ap (list_any is_required_import) (module-items ns))
+  makes-same : (assign : TsImportExportAssignConfig) (ns : List Node) → AreItems ns → makes_require assign (of_items (bare ns)) ≡ makes_require assign (of_items ns)
+  makes-same way.NodeNext ns items = ap (list_any is_required_import) (module-items span shebang place (bare ns)) ∙ bare-requires ns items ∙ sym (ap (list_any is_required_import) (module-items span shebang place ns))
   makes-same _ ns items = refl
 
 -- ---- the head
@@ -245,38 +211,6 @@ module _ (assign : TsImportExportAssignConfig) (unresolved left : ℕ) (ns : Lis
       ∙ ap whole_of (all-same b kept)
       ∙ sym (module-stripped span shebang place (with_front head (map (to b) ms)))
       ∙ ap stripped (sym (transformed-module span shebang place assign unresolved head ns))
-
--- ---- a module by its sorts
-
-module-kind : (k : Kind) → belongs sort.Module k ≡ true → (shebang : Option (List ℕ)) × (k ≡ kind.Module shebang)
-module-kind (kind.Module shebang) h = (shebang, refl)
-module-kind _ h = no h
-
-are-items : (ns : List Node) → HaveShapes (replicate (length ns) (one sort.ModuleItem)) ns → AreItems ns
-are-items [] h = tt
-are-items (n ∷ ns) h = (h.0, are-items ns h.1)
-
-rolled : (n : Node) (k : Kind) → (out-Node n).kind ≡ k → n ≡ node_of (out-Node n).span k (out-Node n).children
-rolled n k is = sym (roll-out-Node n) ∙ ap (λ z. node_of (out-Node n).span z (out-Node n).children) is
-
-module-form : (tree : Node) → HasSort sort.Module tree
-    → (span : Span) × (shebang : Option (List ℕ)) × (place : Span) × (ns : List Node) × (tree ≡ as_module span shebang place ns) × AreItems ns
-module-form tree h =
-    let parts = shape-out tree (one sort.Module) h in
-    let k = module-kind (out-Node tree).kind parts.0 in
-    let cs = (out-Node tree).children in
-    let single = one-child (many sort.ModuleItem) cs (subst (λ l. HaveShapes (child_shapes l (one sort.Module) (length cs)) cs) k.1 parts.1) in
-    let list = single.0 in
-    let inner = shape-out list (many sort.ModuleItem) single.2 in
-    let l = list-kind (out-Node list).kind inner.0 in
-    let ns = (out-Node list).children in (
-      (out-Node tree).span,
-      k.0,
-      (out-Node list).span,
-      ns,
-      rolled tree (kind.Module k.0) k.1 ∙ ap (node_of (out-Node tree).span (kind.Module k.0)) (single.1 ∙ ap (λ z. z ∷ []) (rolled list kind.List l)),
-      are-items ns (subst (λ z. HaveShapes (child_shapes z (many sort.ModuleItem) (length ns)) ns) l inner.1),
-    )
 
 pub assignments_before_or_after : AssignmentsBeforeOrAfter
 assignments_before_or_after assign unresolved left tree h keeps_front =

@@ -122,7 +122,7 @@ module _ (n : Node) (h : HasShape (one sort.Ident) n) where
 
 -- ---- what is written
 
-constant-is : (span : Span) (name v : Node) → constant span name v ≡ constants span (declared name) v
+pub constant-is : (span : Span) (name v : Node) → constant span name v ≡ constants span (declared name) v
 constant-is span name v =
     let parts : Node-F Node = record { span = dummy_span; kind = kind.VarDecl Const false; children = list_node (declarator (declared name) v ∷ []) ∷ [] } in
     ap (λ (z : Node-F Node). node_of span z.kind z.children) (out-roll-Node parts)

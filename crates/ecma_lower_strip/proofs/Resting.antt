@@ -24,7 +24,7 @@ use Rattle.ecma_lower.specs.declared.seat.Seat.{Seat}
 use Rattle.ecma_lower.specs.declared.seat.Seat.TheVariants as seat
 use Rattle.ecma_lower.specs.Assignments.{is_required, requires_by}
 use Rattle.ecma_lower.specs.Seats.{is_raw, seat_in}
-use Rattle.ecma_lower.specs.Writing.{required_of, written}
+use Rattle.ecma_lower.specs.Writing.{export_of, import_of, required_of, written}
 use Rattle.ecma_lower.proofs.Raw.{raw-stays}
 use Rattle.ecma_lower.proofs.Singles.{each_at, write, write-out}
 use Rattle.ecma_lower_strip.proofs.Plain.{PlainNames, plain-node, required-written}
@@ -106,6 +106,29 @@ module _ (names : Names) where
   pub unwritten : (c : Node) → write names seat.Raw c ≡ c
   unwritten c = sym (raw-stays names seat.Raw c refl)
 
+  -- ---- what is written for an assignment, and for the right side of an import
+
+  pub import-out : (span : Span) (e : Bool) (a b : Node) → write names seat.Item (node_of span (kind.TsImportEqualsDecl e false) (a ∷ b ∷ [])) ≡ import_of names (is_required (out-Node b).kind) e span (a ∷ write names seat.Value b ∷ [])
+  unfolding written seat_in
+  import-out span e a b =
+      write-roll seat.Item span (kind.TsImportEqualsDecl e false) (a ∷ b ∷ []) refl
+      ∙ ap (λ z. import_of names (is_required (out-Node b).kind) e span (z ∷ write names seat.Value b ∷ [])) (unwritten a)
+
+  pub export-out : (span : Span) (e : Node) → write names seat.Item (node_of span kind.TsExportAssignment (e ∷ [])) ≡ export_of names.free span (e ∷ [])
+  unfolding written seat_in
+  export-out span e = write-roll seat.Item span kind.TsExportAssignment (e ∷ []) refl ∙ ap (λ z. export_of names.free span (z ∷ [])) (unwritten e)
+
+  pub qualified-out : (span : Span) (l r : Node) → write names seat.Value (node_of span kind.TsQualifiedName (l ∷ r ∷ [])) ≡ node_of span kind.MemberExpr (write names seat.Value l ∷ r ∷ [])
+  unfolding written seat_in
+  qualified-out span l r =
+      write-roll seat.Value span kind.TsQualifiedName (l ∷ r ∷ []) refl
+      ∙ ap (λ z. node_of span kind.MemberExpr (write names seat.Value l ∷ z ∷ [])) (unwritten r)
+
+  pub required-out : (span : Span) (arg : Node) → write names seat.Value (node_of span kind.TsExternalModuleRef (arg ∷ [])) ≡ required_of names.required span (arg ∷ [])
+  unfolding written seat_in
+  required-out span arg =
+      write-roll seat.Value span kind.TsExternalModuleRef (arg ∷ []) refl ∙ ap (λ z. required_of names.required span (z ∷ [])) (unwritten arg)
+
 -- ---- the right side of an import
 
 abbrev is_side : Sort → Bool
@@ -183,35 +206,24 @@ module _ (names : Names) (plains : PlainNames names) where
       ∙ rest-stays names seat.Value bare (ap rests (kind-roll span (kind.Ident text ctxt false) (map stripped cs)))
       ∙ sym (ap stripped (rest-stays names seat.Value n (ap rests (kind-roll span (kind.Ident text ctxt optional) cs))) ∙ is)
 
-  qualified-out : (span : Span) (l r : Node) → write names seat.Value (node_of span kind.TsQualifiedName (l ∷ r ∷ [])) ≡ node_of span kind.MemberExpr (write names seat.Value l ∷ r ∷ [])
-  unfolding written seat_in
-  qualified-out span l r =
-      write-roll names seat.Value span kind.TsQualifiedName (l ∷ r ∷ []) refl
-      ∙ ap (λ z. node_of span kind.MemberExpr (write names seat.Value l ∷ z ∷ [])) (unwritten names r)
-
   qualified-side : (span : Span) (l r : Node) → write names seat.Value (stripped l) ≡ stripped (write names seat.Value l)
       → write names seat.Value (stripped (node_of span kind.TsQualifiedName (l ∷ r ∷ []))) ≡ stripped (write names seat.Value (node_of span kind.TsQualifiedName (l ∷ r ∷ [])))
   unfolding plain plain_kind plain_children
   qualified-side span l r same =
       ap (write names seat.Value) (plain-node span kind.TsQualifiedName (l ∷ r ∷ []) refl (λ ds. refl))
-      ∙ qualified-out span (stripped l) (stripped r)
+      ∙ qualified-out names span (stripped l) (stripped r)
       ∙ ap (λ z. node_of span kind.MemberExpr (z ∷ stripped r ∷ [])) same
       ∙ sym (plain-node span kind.MemberExpr (write names seat.Value l ∷ r ∷ []) refl (λ ds. refl))
-      ∙ ap stripped (sym (qualified-out span l r))
-
-  required-out : (span : Span) (arg : Node) → write names seat.Value (node_of span kind.TsExternalModuleRef (arg ∷ [])) ≡ required_of names.required span (arg ∷ [])
-  unfolding written seat_in
-  required-out span arg =
-      write-roll names seat.Value span kind.TsExternalModuleRef (arg ∷ []) refl ∙ ap (λ z. required_of names.required span (z ∷ [])) (unwritten names arg)
+      ∙ ap stripped (sym (qualified-out names span l r))
 
   required-side : (span : Span) (arg : Node) → HasShape (one sort.Str) arg
       → write names seat.Value (stripped (node_of span kind.TsExternalModuleRef (arg ∷ []))) ≡ stripped (write names seat.Value (node_of span kind.TsExternalModuleRef (arg ∷ [])))
   unfolding plain plain_kind plain_children
   required-side span arg h =
       ap (write names seat.Value) (plain-node span kind.TsExternalModuleRef (arg ∷ []) refl (λ ds. refl))
-      ∙ required-out span (stripped arg)
+      ∙ required-out names span (stripped arg)
       ∙ sym (required-written names.required span arg plains (argument-stays arg h))
-      ∙ ap stripped (sym (required-out span arg))
+      ∙ ap stripped (sym (required-out names span arg))
 
   side-by : (span : Span) (k : Kind) (cs : List Node) (σ : Sort) → is_side_kind k ≡ true → ((i : ℕ) (c : Node) → slice_get cs i ≡ Some c → Side c) → HasShape (one σ) (node_of span k cs)
       → write names seat.Value (stripped (node_of span k cs)) ≡ stripped (write names seat.Value (node_of span k cs))

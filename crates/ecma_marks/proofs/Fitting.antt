@@ -32,7 +32,7 @@ use Rattle.ecma_fits.specs.Fitting.{Fits, at_top, breaks_rule, is_misspelled}
 use Rattle.ecma_fits.specs.Members.{is_misread, is_misread_by}
 use Rattle.ecma_fits.specs.Roles.{is_out_of_role, is_wrong_name, may_be, takes}
 use Rattle.ecma_fits.specs.Strays.{is_stray_target}
-use Rattle.ecma_hygiene_fits.specs.Placed.{NoneMade, is_made}
+use Rattle.ecma_hygiene_fits.specs.Placed.{NoneMadeBut, is_made_but}
 use Rattle.ecma_hygiene_fits.specs.Spelled.{NoneLong, is_long}
 use Rattle.ecma_strip_fits.specs.Targets.{HasPlainTargets, is_typed_target}
 use Rattle.ecma_marks.specs.Laws.{MarkedTreesHaveNoOtherNames}
@@ -151,10 +151,10 @@ long = by-kind (λ w k n. is_long k) none (λ n l m h. refl)
     none (kind.Ident sym ctxt optional) n l s h = no h
     none _ n l s h = refl
 
-made : Clause (λ w n. is_made (out-Node n).kind (out-Node n).span)
-made = by-kind (λ w k n. is_made k (out-Node n).span) none (λ n l m h. refl)
+made : (names : ℕ) → Clause (λ w n. is_made_but names (out-Node n).kind (out-Node n).span)
+made names = by-kind (λ w k n. is_made_but names k (out-Node n).span) none (λ n l m h. refl)
   where
-    none : (k : Kind) (n : Node) (l : Bool) (s : Standing) → is_still k ≡ true → is_made k (out-Node n).span ≡ false
+    none : (k : Kind) (n : Node) (l : Bool) (s : Standing) → is_still k ≡ true → is_made_but names k (out-Node n).span ≡ false
     none (kind.Ident sym ctxt optional) n l s h = no h
     none _ n l s h = refl
 
@@ -278,9 +278,9 @@ module _ (span : Span) (shebang : Option (List ℕ)) (place : Span) (ns : List N
   pub short-more : AreItems ns → NoneLong before → NoneLong (module_at span shebang place (with_export ns))
   short-more are h = none-fails (λ w n. is_long (kind_of n)) long span shebang place ns are h
 
-  pub unmade-more : AreItems ns → NoneMade before → NoneMade (module_at span shebang place (with_export ns))
-  unmade-more are h = none-fails (λ w n. is_made (out-Node n).kind (out-Node n).span) made span shebang place ns are h
+  pub unmade-more : (names : ℕ) → AreItems ns → NoneMadeBut names before → NoneMadeBut names (module_at span shebang place (with_export ns))
+  unmade-more names are h = none-fails (λ w n. is_made_but names (out-Node n).kind (out-Node n).span) (made names) span shebang place ns are h
 
 pub marked_trees_have_no_other_names : MarkedTreesHaveNoOtherNames
-marked_trees_have_no_other_names no_empty_export was_module tree h unmade =
-    where-it-may-come NoneMade no_empty_export was_module tree h (λ span shebang place ns are before. unmade-more span shebang place ns are before) unmade
+marked_trees_have_no_other_names no_empty_export was_module names tree h unmade =
+    where-it-may-come (NoneMadeBut names) no_empty_export was_module tree h (λ span shebang place ns are before. unmade-more span shebang place ns names are before) unmade

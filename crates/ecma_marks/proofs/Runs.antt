@@ -7,7 +7,7 @@ use Rattle.ecma_tree.specs.Nodes.{absent, dummy_span, list_node}
 use Rattle.ecma_tree.specs.declared.node.Node.{Node}
 use Rattle.ecma_lower.specs.Marking.{empty_export}
 use Rattle.ecma_runs.specs.declared.script.Script.{Script}
-use Rattle.ecma_runs.specs.Declarations.{all_declared, all_exports, all_lexicals, all_vars}
+use Rattle.ecma_runs.specs.Declarations.{all_declared, all_exports, all_last_declared, all_lexicals, all_vars}
 use Rattle.ecma_runs.specs.Evaluation.{meaning, meaning_by}
 use Rattle.ecma_runs.specs.Environment.{new_environment}
 use Rattle.ecma_runs.specs.Exports.{Exported}
@@ -16,7 +16,7 @@ use Rattle.ecma_runs.specs.Meaning.{Known, Meaning}
 use Rattle.ecma_runs.specs.Observation.{module_activation, module_context, observe, observed, run_actions, shown_to_host, start}
 use Rattle.ecma_runs.specs.Run.{◌>>=◌, give}
 use Rattle.ecma_runs.specs.State.{Binding, Id}
-use Rattle.ecma_runs.specs.Statements.{all_completions, all_hoisted}
+use Rattle.ecma_runs.specs.Statements.{all_completions, all_hoisted, all_last}
 use Rattle.ecma_runs.specs.Values.{Undefined}
 use Rattle.ecma_runs.proofs.Layer.{meaning-roll}
 use Rattle.ecma_marks.specs.Laws.{MarkedTreesRunAlike}
@@ -48,9 +48,11 @@ observed-alike turns options n n' script same = λ i.
 pub record IsIdle (m : Meaning) : Type 0 where
   pub completion : m.completion ≡ λ x. give tt
   pub hoisted : m.hoisted ≡ λ x. give tt
+  pub last : m.last ≡ λ x. give tt
   pub vars : m.vars ≡ []
   pub lexicals : m.lexicals ≡ []
   pub declared : m.declared ≡ []
+  pub last_declared : m.last_declared ≡ []
   pub exports : m.exports None ≡ []
 
 module _ (e : Node) (idle : IsIdle (meaning e)) where
@@ -69,6 +71,10 @@ module _ (e : Node) (idle : IsIdle (meaning e)) where
   declared_more [] = ap (λ (z : List Id). z ++ []) idle.declared
   declared_more (n ∷ ns) = ap (λ (z : List Id). (meaning n).declared ++ z) (declared_more ns)
 
+  last_declared_more : (ns : List Node) → all_last_declared (map meaning (more ns)) ≡ all_last_declared (map meaning ns)
+  last_declared_more [] = ap (λ (z : List Id). z ++ []) idle.last_declared
+  last_declared_more (n ∷ ns) = ap (λ (z : List Id). (meaning n).last_declared ++ z) (last_declared_more ns)
+
   exports_more : (ns : List Node) → all_exports (map meaning (more ns)) None ≡ all_exports (map meaning ns) None
   exports_more [] = ap (λ (z : List Exported). z ++ []) idle.exports
   exports_more (n ∷ ns) = ap (λ (z : List Exported). (meaning n).exports None ++ z) (exports_more ns)
@@ -80,6 +86,10 @@ module _ (e : Node) (idle : IsIdle (meaning e)) where
   completions_more : (ns : List Node) → all_completions (map meaning (more ns)) ≡ all_completions (map meaning ns)
   completions_more [] = λ i x. idle.completion i x >>= λ _. give tt
   completions_more (n ∷ ns) = λ i x. (meaning n).completion x >>= λ _. completions_more ns i x
+
+  last_more : (ns : List Node) → all_last (map meaning (more ns)) ≡ all_last (map meaning ns)
+  last_more [] = λ i x. idle.last i x >>= λ _. give tt
+  last_more (n ∷ ns) = λ i x. (meaning n).last x >>= λ _. last_more ns i x
 
   -- ---- the module
 
@@ -99,11 +109,11 @@ module _ (e : Node) (idle : IsIdle (meaning e)) where
     hoisted_of_whole : (ns : List Node) → (meaning (whole ns)).hoisted ≡ all_hoisted (map meaning ns)
     hoisted_of_whole ns = ap (λ (m : Meaning). m.hoisted) (whole_means ns) ∙ ap (λ (m : Meaning). m.hoisted) (list_means ns)
 
-    completion_of_whole : (ns : List Node) → (meaning (whole ns)).completion ≡ all_completions (map meaning ns)
-    completion_of_whole ns = ap (λ (m : Meaning). m.completion) (whole_means ns) ∙ ap (λ (m : Meaning). m.completion) (list_means ns)
+    completion_of_whole : (ns : List Node) → (meaning (whole ns)).completion ≡ λ x. all_completions (map meaning ns) x >>= λ _. all_last (map meaning ns) x
+    completion_of_whole ns = ap (λ (m : Meaning). m.completion) (whole_means ns) ∙ ap (λ (m : Meaning). λ x. m.completion x >>= λ _. m.last x) (list_means ns)
 
-    declared_of_whole : (ns : List Node) → (meaning (whole ns)).declared ≡ all_declared (map meaning ns) ++ []
-    declared_of_whole ns = ap (λ (m : Meaning). m.declared) (whole_means ns) ∙ ap (λ (m : Meaning). m.declared ++ []) (list_means ns)
+    declared_of_whole : (ns : List Node) → (meaning (whole ns)).declared ≡ all_declared (map meaning ns) ++ all_last_declared (map meaning ns)
+    declared_of_whole ns = ap (λ (m : Meaning). m.declared) (whole_means ns) ∙ ap (λ (m : Meaning). m.declared ++ m.last_declared) (list_means ns)
 
     exports_of_whole : (ns : List Node) → (meaning (whole ns)).exports None ≡ all_exports (map meaning ns) None
     exports_of_whole ns = ap (λ (m : Meaning). m.exports None) (whole_means ns) ∙ ap (λ (m : Meaning). m.exports None) (list_means ns)
@@ -112,8 +122,8 @@ module _ (e : Node) (idle : IsIdle (meaning e)) where
     whole-runs ns = record {
       locals = locals_of_whole (more ns) ∙ ap₂ (λ (a b : List Binding). a ++ b) (vars_more ns) (lexicals_more ns) ∙ sym (locals_of_whole ns);
       hoisted = hoisted_of_whole (more ns) ∙ hoisted_more ns ∙ sym (hoisted_of_whole ns);
-      completion = completion_of_whole (more ns) ∙ completions_more ns ∙ sym (completion_of_whole ns);
-      declared = declared_of_whole (more ns) ∙ ap (λ (z : List Id). z ++ []) (declared_more ns) ∙ sym (declared_of_whole ns);
+      completion = completion_of_whole (more ns) ∙ (λ i x. completions_more ns i x >>= λ _. last_more ns i x) ∙ sym (completion_of_whole ns);
+      declared = declared_of_whole (more ns) ∙ ap₂ (λ (a b : List Id). a ++ b) (declared_more ns) (last_declared_more ns) ∙ sym (declared_of_whole ns);
       exports = exports_of_whole (more ns) ∙ exports_more ns ∙ sym (exports_of_whole ns);
     }
 
@@ -132,9 +142,11 @@ export-idle : IsIdle (meaning empty_export)
 export-idle = record {
   completion = ap (λ (m : Meaning). m.completion) export_means;
   hoisted = ap (λ (m : Meaning). m.hoisted) export_means;
+  last = ap (λ (m : Meaning). m.last) export_means;
   vars = ap (λ (m : Meaning). m.vars) export_means;
   lexicals = ap (λ (m : Meaning). m.lexicals) export_means;
   declared = ap (λ (m : Meaning). m.declared) export_means ∙ ap₂ (λ (a b : Meaning). a.declared ++ (b.declared ++ (b.declared ++ []))) none_means absent_means;
+  last_declared = ap (λ (m : Meaning). m.last_declared) export_means;
   exports = ap (λ (m : Meaning). m.exports None) export_means ∙ ap (λ (m : Meaning). m.exports (meaning absent).text) none_means;
 }
 

@@ -5,7 +5,7 @@ use Rattle.ecma_tree.specs.declared.node.Node.{Node}
 use Rattle.ecma_tree.specs.Sorted.{HasSort}
 use Rattle.ecma_config.specs.declared.config.Config.{Config}
 use Rattle.ecma_exports.specs.Exports.{first_captured}
-use Rattle.ecma_hygiene_fits.specs.Placed.{NoneMade}
+use Rattle.ecma_hygiene_fits.specs.Placed.{NoneMadeBut}
 use Rattle.ecma_interface.specs.Names.{Id}
 use Rattle.ecma_interface.specs.Reading.{interface_of}
 use Rattle.ecma_lower.specs.Marking.{marked}
@@ -30,7 +30,8 @@ MarkedTreesHaveOwnContexts = (no_empty_export was_module : Bool) (tree : Node) �
 
 -- no identifier is in it
 abbrev pub MarkedTreesHaveNoOtherNames : Type 0
-MarkedTreesHaveNoOtherNames = (no_empty_export was_module : Bool) (tree : Node) → HasSort sort.Module tree → NoneMade tree → NoneMade (marked_before no_empty_export was_module tree)
+MarkedTreesHaveNoOtherNames =
+    (no_empty_export was_module : Bool) (free : ℕ) (tree : Node) → HasSort sort.Module tree → NoneMadeBut free tree → NoneMadeBut free (marked_before no_empty_export was_module tree)
 
 -- and so no name is captured that was not
 abbrev pub MarkedTreesCaptureAlike : Type 0

@@ -4,7 +4,7 @@ use Rattle.ecma_kind.specs.declared.shapes.Sort.TheVariants as sort
 use Rattle.ecma_tree.specs.declared.node.Node.{Node}
 use Rattle.ecma_tree.specs.Sorted.{HasSort}
 use Rattle.ecma_config.specs.declared.config.Config.{Config}
-use Rattle.ecma_elide_sources.specs.Laws.{ElidedSourcesAreRead, ElidedSourcesNeedNoLowering, ElidedSourcesTakeAsManyContexts, ElidingKeepsNamesShort, ElidingMakesNoNames}
+use Rattle.ecma_elide_sources.specs.Laws.{ElidedSourcesAreRead, ElidedSourcesAreTaken, ElidedSourcesTakeAsManyContexts, ElidingKeepsNamesShort, ElidingMakesNoNames}
 use Rattle.ecma_elide_sources.specs.Sources.{elided_source}
 use Rattle.ecma_fits.specs.Fitting.{Fits}
 use Rattle.ecma_lower.specs.Marking.{has_module_declaration}
@@ -21,7 +21,7 @@ pub record Laws : Type 0 where
   pub short : NamesThatAreReadAreShort
   pub made : NamesThatAreReadStandInTheSource
   pub elided_read : ElidedSourcesAreRead
-  pub elided_lowered : ElidedSourcesNeedNoLowering
+  pub elided_taken : ElidedSourcesAreTaken
   pub elided_short : ElidingKeepsNamesShort
   pub elided_made : ElidingMakesNoNames
   pub elided_contexts : ElidedSourcesTakeAsManyContexts
@@ -48,12 +48,13 @@ converted_modules laws config unresolved top left bound text source final utf8 s
     let read : IsRead source = laws.reads text typescript bound source utf8 (shorter (length text) short) reads in
     let sorted : HasSort sort.Module source = read.fits.sorted in
     let left_of : Node = elided_source config unresolved top left source in
-    laws.written config.no_empty_export (has_module_declaration source) unresolved top left left_of final
+    laws.written config.import_export_assign_config config.no_empty_export (has_module_declaration source) unresolved top left left_of final
     (laws.elided_read config unresolved top left source read)
     (laws.elided_short config unresolved top left source sorted (laws.short text typescript bound source (short_names (length text) short) reads))
     (laws.elided_made config unresolved top left source sorted (laws.made text typescript bound source utf8 reads))
     (record {
-      lowered = laws.elided_lowered config unresolved top left source sorted is.lowered;
+      taken = laws.elided_taken config config.import_export_assign_config unresolved top left source sorted is.taken;
+      unrefused = is.unrefused;
       distinct = is.distinct;
       given = elided_given laws.elided_contexts config unresolved top left source read.fits is.given;
       uncaptured = is.uncaptured;

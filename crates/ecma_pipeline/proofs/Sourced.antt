@@ -5,15 +5,14 @@ use Rattle.ecma_kind.specs.declared.kind.Kind.TheVariants as kind
 use Rattle.ecma_kind.specs.declared.shapes.Sort.TheVariants as sort
 use Rattle.ecma_tree.specs.Changing.{changed_here}
 use Rattle.ecma_tree.specs.Nodes.{dummy_span, node_of}
-use Rattle.ecma_tree.specs.Sorted.{one}
+use Rattle.ecma_tree.specs.Sorted.{HasSort, one}
 use Rattle.ecma_tree.specs.declared.node.Node.{Node, fold-roll-Node, out-Node}
 use Rattle.ecma_text_leaves.specs.Everywhere.{Each, Everywhere, everywhere, more, none}
 use Rattle.ecma_text_leaves.proofs.Trees.{each_append}
 use Rattle.ecma_rules.specs.Children.{kind_of}
 use Rattle.ecma_plain.specs.Forms.{IsBareUnquestioned}
-use Rattle.ecma_plain.specs.Read.{IsRead}
-use Rattle.ecma_scope.specs.Resolved.{resolved}
-use Rattle.ecma_scope.proofs.Unchanged.{changes-contexts, keeps-sorts}
+use Rattle.ecma_scope.specs.Laws.{without_contexts}
+use Rattle.ecma_text_sources.proofs.Sources.{tree_stays as bare_stays}
 use Rattle.ecma_strip.specs.Stripping.{plain_children, plain_kind, stripped}
 use Rattle.ecma_lower.specs.Items.{first_with, in_items, items_by}
 use Rattle.ecma_lower.specs.Marking.{empty_export, has_module_declaration, marked}
@@ -125,24 +124,21 @@ written_sourced texts true k p = p
 written_sourced texts false (kind.Ident text ctxt optional) p = tt
 written_sourced texts false _ p = p
 
-module _ (no_empty_export was_module : Bool) (unresolved top left : ℕ) (source : Node) (read : IsRead source) where
-  abbrev r : Node
-  r = resolved unresolved top left source
+-- a tree whose literals have source texts once it has no contexts
+module _ (no_empty_export was_module : Bool) (tree : Node) (sorted : HasSort sort.Module tree) (read : Everywhere IsBareUnquestioned (without_contexts tree)) where
+  tree_sourced : Everywhere HasSource tree
+  tree_sourced =
+      everywhere_returned HasSource HasSource empty bare_sourced tree
+      (subst (Everywhere HasSource) (bare_stays read) (everywhere_moved IsBareUnquestioned HasSource empty read_sourced read))
 
-  resolved_sourced : Everywhere HasSource r
-  resolved_sourced =
-      everywhere_returned HasSource HasSource empty bare_sourced r
-      (subst (Everywhere HasSource) (sym (changes-contexts unresolved top left source)) (everywhere_moved IsBareUnquestioned HasSource empty read_sourced read.bare))
-
-  stripped_sourced : Everywhere HasSource (stripped r)
-  stripped_sourced =
-      (kept (Everywhere HasSource) (Everywhere HasSource) asked_says r (one sort.Module) ((keeps-sorts unresolved top left source sort.Module).1 read.fits.sorted) resolved_sourced).0
+  stripped_sourced : Everywhere HasSource (stripped tree)
+  stripped_sourced = (kept (Everywhere HasSource) (Everywhere HasSource) asked_says tree (one sort.Module) sorted tree_sourced).0
 
   abbrev plain : Node
-  plain = marked no_empty_export was_module (stripped r)
+  plain = marked no_empty_export was_module (stripped tree)
 
   pub final_trees_stay : (final : Node) → IsHygienic plain final → with_sources final ≡ final
   final_trees_stay final hygienic =
       tree_stays (subst (Everywhere HasSource) (sym hygienic.is)
       (everywhere_renamed HasSource HasSource (text_in hygienic.names) (written_sourced (text_in hygienic.names)) (λ text ctxt optional p. (tt, tt)) (tt, tt) tt tt tt plain
-      (marked_sourced no_empty_export was_module (stripped r) stripped_sourced)))
+      (marked_sourced no_empty_export was_module (stripped tree) stripped_sourced)))

@@ -6,7 +6,9 @@ use Rattle.ecma_tree.specs.declared.node.Node.{Node}
 use Rattle.ecma_tree.specs.Sorted.{HasSort}
 use Rattle.ecma_modules.specs.Modules.{reads_as, typescript}
 use Rattle.ecma_fits.specs.Fitting.{Fits}
-use Rattle.ecma_forms.specs.Forms.{first_unlowered}
+use Rattle.ecma_forms.specs.Forms.{first_untaken}
+use Rattle.ecma_lower.specs.Checking.{first_refusal}
+use Rattle.ecma_config.specs.declared.config.TsImportExportAssignConfig.{TsImportExportAssignConfig}
 use Rattle.ecma_scope.specs.Resolved.{resolved, AreGiven}
 use Rattle.ecma_strip.specs.Stripping.{stripped}
 use Rattle.ecma_hygiene.specs.Hygienic.{IsHygienic}
@@ -23,7 +25,7 @@ use Rattle.ecma_config.specs.declared.config.Config.{Config}
 use Rattle.ecma_ready.specs.Ready.{HasOwnContexts, IsReady}
 use Rattle.ecma_runs.specs.declared.script.Script.{Script}
 use Rattle.ecma_runs.specs.Observation.{observe}
-use Rattle.ecma_pipeline.specs.Ways.{IsConvertedTo, IsWrittenFor, DoesWhatItsSourceDoes, final_text}
+use Rattle.ecma_pipeline.specs.Ways.{IsConvertedTo, IsWrittenFor, LowersToReady, DoesWhatItsSourceDoes, final_text}
 use Rattle.ecma_pipeline.specs.Written.{DoesWhatItsTreeDoes}
 use Rattle.ecma_plain.specs.Read.{IsRead}
 
@@ -38,15 +40,15 @@ ConvertedModulesDoWhatTheirSourcesDo =
 -- and so is what is written for any tree as modules are read, of which no identifier is long, and none was made
 abbrev pub WrittenModulesDoWhatTheirSourcesDo : Type 0
 WrittenModulesDoWhatTheirSourcesDo =
-    (no_empty_export was_module : Bool) (unresolved top left : ℕ) (source final : Node) → IsRead source → NoneLong source → NoneMade source
-    → (is : IsWrittenFor no_empty_export was_module unresolved top left source final) → DoesWhatItsSourceDoes unresolved top left source final (final_text is.hygienic)
+    (assign : TsImportExportAssignConfig) (no_empty_export was_module : Bool) (unresolved top left : ℕ) (source final : Node) → IsRead source → NoneLong source → NoneMade source
+    → (is : IsWrittenFor assign no_empty_export was_module unresolved top left source final) → DoesWhatItsSourceDoes unresolved top left source final (final_text is.hygienic)
 
--- a module as it is read, in which nothing has to be lowered, no identifier is long, and no name is declared again where it may not be, is ready once its names are bound
--- and it is resolved, and its scopes have contexts of their own
+-- a module as it is read, each form of which is taken, in which no assignment is refused, no identifier is long, and no name is declared again where it may not be, is ready once
+-- its names are bound, it is resolved and its assignments are lowered, and its scopes have contexts of their own
 abbrev pub BoundSourcesAreReady : Type 0
 BoundSourcesAreReady =
-    (unresolved top left : ℕ) (source : Node) → IsRead source → NoneLong source → first_unlowered source ≡ None → redeclared source ≡ [] → AreGiven unresolved top left source
-    → IsReady false unresolved (resolved unresolved top left (with_bound_names source)) × HasOwnContexts (resolved unresolved top left (with_bound_names source))
+    (assign : TsImportExportAssignConfig) (unresolved top left : ℕ) (source : Node) → IsRead source → NoneLong source → first_untaken assign source ≡ None → first_refusal assign source ≡ None
+    → redeclared source ≡ [] → AreGiven unresolved top left source → LowersToReady assign unresolved (resolved unresolved top left (with_bound_names source))
 
 -- the tree that is written fits: one that is ready, without its types, with its final texts
 abbrev pub FinalTreesFit : Type 0

@@ -11,9 +11,9 @@ pub mod OrdinaryRenamed
 pub mod OrdinaryParts
 pub mod OrdinaryStripped
 pub mod Untaken
-pub mod NotLater
 pub mod Leaving
 pub mod WrittenTexts
+pub mod Unresolved
 pub mod Law
 pub mod ReadyKinds
 pub mod ReadyPlain

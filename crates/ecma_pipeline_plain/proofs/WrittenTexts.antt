@@ -1,4 +1,4 @@
--- The texts of a tree as it is read can be written, and so can those of its resolved tree.
+-- The texts of a tree as it is read can be written, and so can those of the tree with any contexts, as of its resolved tree.
 use Rattle.std.proofs.Common.{◌≡◌, ◌∙◌, refl, sym, subst, ℕ, zero, suc, Bool, true, false, ◌&&◌, ◌||◌, not, List, Option, Some, None, replicate, length, slice_get}
 use Rattle.std.specs.List.{list_all}
 use Rattle.ecma_kind.specs.Sorts.{belongs}
@@ -23,6 +23,7 @@ use Rattle.ecma_plain.specs.Read.{IsRead}
 use Rattle.ecma_ready.specs.Ready.{HasTexts}
 use Rattle.ecma_pipeline_runs.proofs.Nodes.{all-at, by-children, child-shape}
 use Rattle.ecma_pipeline_runs.proofs.Remaining.{is_many, restless}
+use Rattle.ecma_text_sources.proofs.Sources.{tree_stays}
 use Rattle.ecma_pipeline_plain.proofs.Everywhere.{each_at, each_of, everywhere_made, everywhere_moved, everywhere_returned, parts}
 use Rattle.ecma_pipeline_plain.proofs.KindsSaid.{bare, empty}
 
@@ -129,9 +130,13 @@ whole tree sorted utf8 e =
     everywhere_made HasTexts tree (head_by (kind_of tree) utf8 p.0)
     (each_of HasTexts (children_of tree) (λ i c at. (let o = child_inner tree (one sort.Module) sorted unlisted i c at in inner c o.0 o.1 o.2 (each_at HasOtherTexts (children_of tree) p.1 i c at))))
 
+-- whatever its contexts are
+pub texts_said : (tree : Node) → IsRead (without_contexts tree) → Everywhere HasTexts tree
+texts_said tree read =
+    let other : Everywhere HasOtherTexts (without_contexts tree) = subst (Everywhere HasOtherTexts) (tree_stays read.bare) (everywhere_moved IsBareUnquestioned HasOtherTexts empty to_other read.bare) in
+    everywhere_returned HasTexts HasTexts empty of_bare tree (whole (without_contexts tree) read.fits.sorted read.hashbang other)
+
 -- where a tree has the empty context for each identifier
 pub texts_resolved : (unresolved top left : ℕ) (tree : Node) → IsRead tree → without_contexts tree ≡ tree → Everywhere HasTexts (resolved unresolved top left tree)
 texts_resolved unresolved top left tree read empties =
-    let other : Everywhere HasOtherTexts tree = subst (Everywhere HasOtherTexts) empties (everywhere_moved IsBareUnquestioned HasOtherTexts empty to_other read.bare) in
-    everywhere_returned HasTexts HasTexts empty of_bare (resolved unresolved top left tree)
-    (subst (Everywhere HasTexts) (sym (changes-contexts unresolved top left tree ∙ empties)) (whole tree read.fits.sorted read.hashbang other))
+    texts_said (resolved unresolved top left tree) (subst IsRead (sym (changes-contexts unresolved top left tree ∙ empties)) read)

@@ -1,5 +1,6 @@
 pub mod Trees
 pub mod Throughout
+pub mod ButFree
 pub mod Contexts
 pub mod PlainNodes
 pub mod Stripping

@@ -11,8 +11,7 @@ pub fn contexts_make_no_names()
     ensures { ContextsMakeNoNames }
 {}
 
-/// Where no identifier was made, none of the tree without its types was.
-#[tactic(auto, using(crate::proofs::Stripping::names_left))]
+/// Where no identifier was made, but for free names, none of the tree without its types was.
 pub fn stripping_makes_no_names()
     ensures { StrippingMakesNoNames }
 {}

@@ -158,6 +158,7 @@ module _ (known : Known) where
     completion = same.completion;
     varied = same.varied;
     hoisted = same.hoisted;
+    last = same.last;
     effect = same.effect;
     test = same.test;
     caught = same.caught;
@@ -176,6 +177,7 @@ module _ (known : Known) where
     locals = same.locals;
     parameter_names = same.parameter_names;
     declared = same.declared;
+    last_declared = same.last_declared;
     imported = same.imported;
     text = same.text;
     exports = same.exports;
@@ -184,6 +186,7 @@ module _ (known : Known) where
     is_computed = same.is_computed;
     is_super = same.is_super;
     is_absent = same.is_absent;
+    is_required = same.is_required;
     is_this = same.is_this;
     is_type = same.is_type;
     has_body = same.has_body;

@@ -20,10 +20,10 @@ use Rattle.ecma_runs.specs.Meaning.{Evaluation, Meaning, inside}
 use Rattle.ecma_runs.specs.Evaluation.{meaning_by, no_effect, role_by}
 use Rattle.ecma_runs.specs.Values.{Value, truth_of}
 use Rattle.ecma_runs.specs.Classes.{all_code, all_defined, all_fields, all_statics, field_with}
-use Rattle.ecma_runs.specs.Declarations.{all_names, all_imported, all_lexicals, all_vars, all_parameter_names, all_declared, all_shorthands, all_cooked, all_plain, all_types, any_constructor, joined_parts, imported_from, all_exports, exported_from}
+use Rattle.ecma_runs.specs.Declarations.{all_names, all_imported, all_lexicals, all_vars, all_parameter_names, all_declared, all_last_declared, all_shorthands, all_cooked, all_plain, all_types, any_constructor, joined_parts, imported_from, all_exports, exported_from}
 use Rattle.ecma_runs.specs.Expressions.{all_arguments, all_elements, all_texts, sequence, unary, binary_rest, logical_rest, compound_rest, assign, call_by}
 use Rattle.ecma_runs.specs.Patterns.{all_targets, all_matched, all_parameters}
-use Rattle.ecma_runs.specs.Statements.{all_completions, all_varied, all_hoisted, for_rounds}
+use Rattle.ecma_runs.specs.Statements.{all_completions, all_varied, all_hoisted, all_last, for_rounds}
 
 -- what a node means in all roles but that of a link
 abbrev pub unlinked : Meaning → Meaning
@@ -71,6 +71,10 @@ all_parameter_names_unlinked (m ∷ ms) = λ i. m.parameter_names ++ all_paramet
 all_declared_unlinked : (ms : List Meaning) → all_declared (all_unlinked ms) ≡ all_declared ms
 all_declared_unlinked [] = refl
 all_declared_unlinked (m ∷ ms) = λ i. m.declared ++ all_declared_unlinked ms i
+
+all_last_declared_unlinked : (ms : List Meaning) → all_last_declared (all_unlinked ms) ≡ all_last_declared ms
+all_last_declared_unlinked [] = refl
+all_last_declared_unlinked (m ∷ ms) = λ i. m.last_declared ++ all_last_declared_unlinked ms i
 
 all_shorthands_unlinked : (ms : List Meaning) → all_shorthands (all_unlinked ms) ≡ all_shorthands ms
 all_shorthands_unlinked [] = refl
@@ -132,6 +136,10 @@ all_hoisted_unlinked : (ms : List Meaning) → all_hoisted (all_unlinked ms) ≡
 all_hoisted_unlinked [] = refl
 all_hoisted_unlinked (m ∷ ms) = λ i x. m.hoisted x >>= λ _. all_hoisted_unlinked ms i x
 
+all_last_unlinked : (ms : List Meaning) → all_last (all_unlinked ms) ≡ all_last ms
+all_last_unlinked [] = refl
+all_last_unlinked (m ∷ ms) = λ i x. m.last x >>= λ _. all_last_unlinked ms i x
+
 sequence_unlinked : (ms : List Meaning) → sequence (all_unlinked ms) ≡ sequence ms
 sequence_unlinked [] = refl
 sequence_unlinked (e ∷ []) = refl
@@ -148,6 +156,7 @@ list_unlinked n ms = λ i. record (meaning_by n kind.List ms) {
   completion = all_completions_unlinked ms i;
   varied = all_varied_unlinked ms i;
   hoisted = all_hoisted_unlinked ms i;
+  last = all_last_unlinked ms i;
   defined = all_defined_unlinked ms i;
   fields = all_fields_unlinked ms i;
   statics = all_statics_unlinked ms i;
@@ -157,6 +166,7 @@ list_unlinked n ms = λ i. record (meaning_by n kind.List ms) {
   vars = all_vars_unlinked ms i;
   parameter_names = all_parameter_names_unlinked ms i;
   declared = all_declared_unlinked ms i;
+  last_declared = all_last_declared_unlinked ms i;
   shorthands = all_shorthands_unlinked ms i;
   imported = all_imported_unlinked ms i;
   exports = all_exports_unlinked ms i;

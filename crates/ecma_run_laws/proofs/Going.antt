@@ -30,11 +30,15 @@ abbrev quiet : List Id → List Id → List Binding → List Binding → (List �
 quiet names declared lexicals vars imported exports completion varied hoisted =
     record (no_effect absent) { names = names; declared = declared; lexicals = lexicals; vars = vars; imported = imported; exports = exports; completion = completion; varied = varied; hoisted = hoisted }
 
+-- so it is, with what is done behind all items
+abbrev with_last : Meaning → List Id → Evaluation (Unit {0}) → Meaning
+with_last m ids last = record m { last = last; last_declared = ids }
+
 abbrev nothing : Evaluation (Unit {0})
 nothing x = give tt
 
 abbrev pub silent_statement : Meaning → Meaning
-silent_statement m = quiet [] m.declared m.lexicals m.vars (λ source. []) m.exports m.completion nothing m.hoisted
+silent_statement m = with_last (quiet [] m.declared m.lexicals m.vars (λ source. []) m.exports m.completion nothing m.hoisted) m.last_declared m.last
 
 abbrev pub silent_declarator : Meaning → Meaning
 silent_declarator m = quiet m.names m.declared [] [] (λ source. []) (λ source. []) m.completion m.varied nothing
@@ -69,6 +73,7 @@ module _ (gone : Id → Bool) (known : Known) where
     completion = λ w. does _ w;
     varied = λ w. varies _ w;
     hoisted = λ w. hoists _ w;
+    last = λ w. give_alike (at c _) tt;
     defined = λ class object w. give_alike (at c _) [];
     fields = λ keys object w. give_alike (at c _) keys;
     statics = λ keys class w. give_alike (at c _) keys;
@@ -77,6 +82,7 @@ module _ (gone : Id → Bool) (known : Known) where
     vars = v;
     parameter_names = refl;
     declared = d;
+    last_declared = refl;
     imported = i;
     exports = λ source. ap (changed_exports (names_left gone)) (e source);
     cooked = refl;
@@ -245,6 +251,8 @@ module _ (gone : Id → Bool) (known : Known) where
     lexicals : NoBindingLeft m.lexicals
     vars : NoBindingLeft m.vars
     exports : (source : Option (List ℕ)) → m.exports source ≡ []
+    last : m.last ≡ nothing
+    last_declared : m.last_declared ≡ []
 
   imported_gone : (o : Option (List ℕ)) (m : Meaning) → IdleSpecifier m → NoBindingLeft (imported_from o m)
   imported_gone None m h = refl
@@ -253,12 +261,12 @@ module _ (gone : Id → Bool) (known : Known) where
   statement_by : (n : Node) (k : Kind) (cs : List Node) → is_idle_by gone k cs ≡ true → IdleStatement (meaning_by n k (map meaning cs))
   statement_by n (kind.VarDecl Var false) (ds ∷ []) h =
       let i = all_declarators ds h in
-      record { completion = i.varied; hoisted = nothing_done; lexicals = refl; vars = sym (undefineds c (meaning ds).names) ∙ ap (map undefined) i.names; exports = λ source. refl }
+      record { completion = i.varied; hoisted = nothing_done; lexicals = refl; vars = sym (undefineds c (meaning ds).names) ∙ ap (map undefined) i.names; exports = λ source. refl; last = refl; last_declared = refl }
   statement_by n (kind.VarDecl Let false) (ds ∷ []) h =
       let i = all_declarators ds h in
-      record { completion = i.completion; hoisted = nothing_done; lexicals = sym (empties c false (meaning ds).names) ∙ ap (map (empty false)) i.names; vars = refl; exports = λ source. refl }
+      record { completion = i.completion; hoisted = nothing_done; lexicals = sym (empties c false (meaning ds).names) ∙ ap (map (empty false)) i.names; vars = refl; exports = λ source. refl; last = refl; last_declared = refl }
   statement_by n (kind.ImportDecl false) (ss ∷ source ∷ attributes ∷ []) h =
-      record { completion = nothing_done; hoisted = nothing_done; lexicals = imported_gone (meaning source).text (meaning ss) (all_specifiers ss h); vars = refl; exports = λ source. refl }
+      record { completion = nothing_done; hoisted = nothing_done; lexicals = imported_gone (meaning source).text (meaning ss) (all_specifiers ss h); vars = refl; exports = λ source. refl; last = refl; last_declared = refl }
   statement_by n _ cs h = absurd (cc)
 
   idle_statement : (n : Node) → statement_goes gone n ≡ true → IdleStatement (meaning n)
@@ -274,6 +282,8 @@ module _ (gone : Id → Bool) (known : Known) where
   statement_silent n h =
       let t = both_true (is_idle_by gone (out-Node n).kind (out-Node n).children) (are_gone gone (meaning n).declared) h in
       let d : list_all gone (meaning n).declared ≡ true = all_gone (meaning n).declared t.1 in
-      let i : IdleStatement (meaning n) = idle_statement n h in
-      quiet_silent [] (meaning n).declared (meaning n).lexicals (meaning n).vars (λ source. []) (meaning n).exports (meaning n).completion nothing (meaning n).hoisted refl (none_left (meaning n).declared d)
-      i.lexicals i.vars (λ source. refl) i.exports i.completion nothing_done i.hoisted
+      let idle : IdleStatement (meaning n) = idle_statement n h in
+      let m : Meaning = quiet [] (meaning n).declared (meaning n).lexicals (meaning n).vars (λ source. []) (meaning n).exports (meaning n).completion nothing (meaning n).hoisted in
+      subst (Silent c) (λ i. with_last m (sym idle.last_declared i) (sym idle.last i))
+      (quiet_silent [] (meaning n).declared (meaning n).lexicals (meaning n).vars (λ source. []) (meaning n).exports (meaning n).completion nothing (meaning n).hoisted refl (none_left (meaning n).declared d)
+      idle.lexicals idle.vars (λ source. refl) idle.exports idle.completion nothing_done idle.hoisted)

@@ -308,6 +308,7 @@ module _ (known : Known) where
           completion = λ w s. written_completes _ w;
           varied = λ w s. outside_alike (at c _);
           hoisted = λ w s. give_alike (at c _) tt;
+          last = λ w s. give_alike (at c _) tt;
           effect = λ w s. bind_alike (at c _) {A = Value} (outside_alike (at c _)) (λ _. give_alike (at c _) tt);
           test = λ w s. outside_alike (at c _);
           caught = λ v w s. outside_alike (at c _);
@@ -326,6 +327,7 @@ module _ (known : Known) where
           locals = refl;
           parameter_names = refl;
           declared = written_declares ∙ same.declared ∙ ap (changed_ids same_names) (sym (append-nil m.declared));
+          last_declared = refl;
           imported = λ source. refl;
           text = λ texts. refl;
           exports = λ source. refl;
@@ -334,6 +336,7 @@ module _ (known : Known) where
           is_computed = refl;
           is_super = refl;
           is_absent = refl;
+          is_required = refl;
           is_this = refl;
           is_type = sym values;
           has_body = refl;

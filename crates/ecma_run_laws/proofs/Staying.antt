@@ -7,8 +7,8 @@ use Rattle.ecma_tree.specs.declared.node.Node.{Node, Node-F, fold-roll-Node, ind
 use Rattle.ecma_tree.specs.Nodes.{node_of}
 use Rattle.ecma_runs.specs.State.{Id}
 use Rattle.ecma_runs.specs.Meaning.{Meaning}
-use Rattle.ecma_runs.specs.Declarations.{all_declared, declared_of, has_no_effect}
-use Rattle.ecma_runs.specs.Evaluation.{role_by, no_effect, meaning_by, meaning}
+use Rattle.ecma_runs.specs.Declarations.{all_declared, declared_of, all_last_declared, last_declared_of, has_no_effect}
+use Rattle.ecma_runs.specs.Evaluation.{role_by, no_effect, constant_meaning, set_export, meaning_by, meaning}
 use Rattle.ecma_runs.proofs.Layer.{meaning-roll}
 use Rattle.ecma_runs.proofs.Kept.{AllNodes}
 use Rattle.ecma_runs.proofs.Standing.{Passes, passes_parts, NamesPass, declares}
@@ -25,40 +25,57 @@ module _ (test : Id → Bool) where
   append [] ys p q = q
   append (x ∷ xs) ys p q = (p.0, append xs ys p.1 q)
 
+  -- what is declared in a node, and in what it does behind all items
+  abbrev Declared : Meaning → Type 0
+  Declared m = Stand m.declared × Stand m.last_declared
+
   -- what a part binds, and what is declared in it
   abbrev Part : Node → Type 0
-  Part n = Stand (meaning n).names × Stand (meaning n).declared
+  Part n = Stand (meaning n).names × Declared (meaning n)
 
   all_stand : (cs : List Node) → AllNodes Part cs → Stand (all_declared (map meaning cs))
   all_stand [] h = tt
-  all_stand (n ∷ cs) h = append (meaning n).declared (all_declared (map meaning cs)) h.0.1 (all_stand cs h.1)
+  all_stand (n ∷ cs) h = append (meaning n).declared (all_declared (map meaning cs)) h.0.1.0 (all_stand cs h.1)
 
   role_declared : (k : Kind) (cs : List Node) → AllNodes Part cs → Stand (declared_of k (map meaning cs))
-  role_declared (kind.VarDeclarator definite) (name ∷ init ∷ []) h = append _ _ h.0.0 (append _ _ h.0.1 h.1.0.1)
-  role_declared kind.Param (pattern' ∷ []) h = append _ _ h.0.0 h.0.1
-  role_declared (kind.TsParamProp accessibility is_override readonly) (pattern' ∷ []) h = append _ _ h.0.0 h.0.1
-  role_declared (kind.ArrowExpr is_async is_generator) (parameters ∷ body ∷ types ∷ return_type ∷ []) h = append _ _ h.0.0 (append _ _ h.0.1 h.1.0.1)
-  role_declared kind.SetterProp (key ∷ this_parameter ∷ parameter ∷ body ∷ []) h = append _ _ h.0.1 (append _ _ h.1.1.0.0 (append _ _ h.1.1.0.1 h.1.1.1.0.1))
-  role_declared kind.CatchClause (parameter ∷ body ∷ []) h = append _ _ h.0.0 (append _ _ h.0.1 h.1.0.1)
-  role_declared (kind.FnDecl false) (name ∷ function ∷ []) h = append _ _ h.0.0 h.1.0.1
-  role_declared kind.FnExpr (name ∷ function ∷ []) h = append _ _ h.0.0 h.1.0.1
-  role_declared (kind.ClassDecl false) (name ∷ class ∷ []) h = append _ _ h.0.0 h.1.0.1
-  role_declared kind.ClassExpr (name ∷ class ∷ []) h = append _ _ h.0.0 h.1.0.1
-  role_declared (kind.TsEnumDecl false is_const) (name ∷ members ∷ []) h = append _ _ h.0.0 h.1.0.1
-  role_declared (kind.TsModuleDecl false global) (name ∷ body ∷ []) h = append _ _ h.0.0 h.1.0.1
+  role_declared (kind.VarDeclarator definite) (name ∷ init ∷ []) h = append _ _ h.0.0 (append _ _ h.0.1.0 h.1.0.1.0)
+  role_declared kind.Param (pattern' ∷ []) h = append _ _ h.0.0 h.0.1.0
+  role_declared (kind.TsParamProp accessibility is_override readonly) (pattern' ∷ []) h = append _ _ h.0.0 h.0.1.0
+  role_declared (kind.ArrowExpr is_async is_generator) (parameters ∷ body ∷ types ∷ return_type ∷ []) h = append _ _ h.0.0 (append _ _ h.0.1.0 h.1.0.1.0)
+  role_declared kind.SetterProp (key ∷ this_parameter ∷ parameter ∷ body ∷ []) h = append _ _ h.0.1.0 (append _ _ h.1.1.0.0 (append _ _ h.1.1.0.1.0 h.1.1.1.0.1.0))
+  role_declared kind.CatchClause (parameter ∷ body ∷ []) h = append _ _ h.0.0 (append _ _ h.0.1.0 h.1.0.1.0)
+  role_declared (kind.FnDecl false) (name ∷ function ∷ []) h = append _ _ h.0.0 h.1.0.1.0
+  role_declared kind.FnExpr (name ∷ function ∷ []) h = append _ _ h.0.0 h.1.0.1.0
+  role_declared (kind.ClassDecl false) (name ∷ class ∷ []) h = append _ _ h.0.0 h.1.0.1.0
+  role_declared kind.ClassExpr (name ∷ class ∷ []) h = append _ _ h.0.0 h.1.0.1.0
+  role_declared (kind.TsEnumDecl false is_const) (name ∷ members ∷ []) h = append _ _ h.0.0 h.1.0.1.0
+  role_declared (kind.TsModuleDecl false global) (name ∷ body ∷ []) h = append _ _ h.0.0 h.1.0.1.0
   role_declared kind.ImportDefaultSpecifier (local ∷ []) h = h.0.0
   role_declared kind.ImportStarAsSpecifier (local ∷ []) h = h.0.0
   role_declared (kind.ImportNamedSpecifier false) (local ∷ name ∷ []) h = h.0.0
-  role_declared (kind.TsImportEqualsDecl is_export false) (name ∷ source ∷ []) h = h.0.0
   role_declared (kind.TsTypeAliasDecl declare) cs h = tt
   role_declared kind.Absent cs h = tt
+  role_declared kind.TsExportAssignment cs h = tt
+  role_declared (kind.Module shebang) (body ∷ []) h = append _ _ h.0.1.0 h.0.1.1
   role_declared _ cs h = all_stand cs h
 
-  either : (b : Bool) (m m' : Meaning) → Stand m.declared → Stand m'.declared → Stand (cond b m m').declared
+  all_last_stand : (cs : List Node) → AllNodes Part cs → Stand (all_last_declared (map meaning cs))
+  all_last_stand [] h = tt
+  all_last_stand (n ∷ cs) h = append (meaning n).last_declared (all_last_declared (map meaning cs)) h.0.1.1 (all_last_stand cs h.1)
+
+  role_last : (k : Kind) (cs : List Node) → AllNodes Part cs → Stand (last_declared_of k (map meaning cs))
+  role_last kind.List cs h = all_last_stand cs h
+  role_last kind.TsExportAssignment (e ∷ []) h = h.0.1.0
+  role_last _ cs h = tt
+
+  either : (b : Bool) (m m' : Meaning) → Declared m → Declared m' → Declared (cond b m m')
   either true m m' p q = p
   either false m m' p q = q
 
-  layer_declared : (n : Node) (k : Kind) (cs : List Node) → AllNodes Part cs → Stand (meaning_by n k (map meaning cs)).declared
+  constant_declared : (n : Node) (name source : Meaning) → Stand name.names → Stand name.declared → Stand source.declared → Stand (constant_meaning n name source).declared
+  constant_declared n name source names p q = append _ _ (append _ _ (append _ _ names (append _ _ (append _ _ p tt) q)) tt) tt
+
+  layer_declared : (n : Node) (k : Kind) (cs : List Node) → AllNodes Part cs → Declared (meaning_by n k (map meaning cs))
   layer_declared n kind.ParenExpr (e ∷ []) h = h.0.1
   layer_declared n kind.TsAsExpr (e ∷ type ∷ []) h = h.0.1
   layer_declared n kind.TsTypeAssertion (e ∷ type ∷ []) h = h.0.1
@@ -66,16 +83,19 @@ module _ (test : Id → Bool) where
   layer_declared n kind.TsNonNullExpr (e ∷ []) h = h.0.1
   layer_declared n kind.TsInstantiation (e ∷ types ∷ []) h = h.0.1
   layer_declared n kind.TsSatisfiesExpr (e ∷ type ∷ []) h = h.0.1
-  layer_declared n kind.TsTypeAnn cs h = tt
-  layer_declared n kind.TsTypeParamDecl cs h = tt
-  layer_declared n kind.TsTypeParamInstantiation cs h = tt
-  layer_declared n kind.TsQualifiedName (left ∷ right ∷ []) h = role_declared kind.MemberExpr (left ∷ right ∷ []) h
-  layer_declared n (kind.TsImportEqualsDecl false false) (name ∷ source ∷ []) h =
-      append _ _ (append _ _ (append _ _ h.0.0 (append _ _ (append _ _ h.0.1 tt) h.1.0.1)) tt) tt
-  layer_declared n k cs h = either (has_no_effect k (map meaning cs)) (no_effect n) (role_by n k (map meaning cs)) tt (role_declared k cs h)
+  layer_declared n kind.TsTypeAnn cs h = (tt, tt)
+  layer_declared n kind.TsTypeParamDecl cs h = (tt, tt)
+  layer_declared n kind.TsTypeParamInstantiation cs h = (tt, tt)
+  layer_declared n kind.TsQualifiedName (left ∷ right ∷ []) h = (role_declared kind.MemberExpr (left ∷ right ∷ []) h, tt)
+  layer_declared n (kind.TsImportEqualsDecl false false) (name ∷ source ∷ []) h = (constant_declared n (meaning name) (meaning source) h.0.0 h.0.1.0 h.1.0.1.0, tt)
+  layer_declared n (kind.TsImportEqualsDecl true false) (name ∷ source ∷ []) h =
+      either (meaning source).is_required (constant_meaning n (meaning name) (set_export n (meaning name) (meaning source))) (role_by n kind.ExportDecl (constant_meaning n (meaning name) (meaning source) ∷ []))
+      (constant_declared n (meaning name) (set_export n (meaning name) (meaning source)) h.0.0 h.0.1.0 (append _ _ h.1.0.1.0 tt), tt)
+      (append _ _ (constant_declared n (meaning name) (meaning source) h.0.0 h.0.1.0 h.1.0.1.0) tt, tt)
+  layer_declared n k cs h = either (has_no_effect k (map meaning cs)) (no_effect n) (role_by n k (map meaning cs)) (tt, tt) (role_declared k cs h, role_last k cs h)
 
   DeclaredStand : Node → Type 0
-  DeclaredStand n = Passes test n → Stand (meaning n).declared
+  DeclaredStand n = Passes test n → Declared (meaning n)
 
   each_part : (cs : List Node) → AllNodes DeclaredStand cs → AllNodes (Passes test) cs → AllNodes Part cs
   unfolding DeclaredStand
@@ -86,12 +106,12 @@ module _ (test : Id → Bool) where
   unfolding DeclaredStand
   declared_stand_if = ind-Node DeclaredStand (λ x y is pass.
       let t = passes_parts test x pass in
-      subst (λ m. Stand m.declared) (sym (meaning-roll x))
+      subst Declared (sym (meaning-roll x))
       (layer_declared (roll-Node x) x.kind x.children (each_part x.children (subst (AllNodes DeclaredStand) (ap (λ z. z.children) is) (each_of y.children)) t.1)))
 
   pub declared_stand : (n : Node) → Passes test n → Stand (meaning n).declared
   unfolding DeclaredStand
-  declared_stand n pass = declared_stand_if n pass
+  declared_stand n pass = (declared_stand_if n pass).0
 
 module _ (gone : Id → Bool) where
   abbrev Stays : Node → Type 0

@@ -17,8 +17,8 @@ use Rattle.ecma_runs.proofs.Exports.{LocalsPass, keeps_plain}
 use Rattle.ecma_runs.specs.declared.script.Script.{Script}
 use Rattle.ecma_runs.specs.Run.{◌>>=◌}
 use Rattle.ecma_runs.specs.Meaning.{Known, Evaluation, Meaning}
-use Rattle.ecma_runs.specs.Statements.{all_completions, all_varied, all_hoisted}
-use Rattle.ecma_runs.specs.Declarations.{all_names, all_declared, all_vars, all_lexicals, all_imported, imported_from, all_exports}
+use Rattle.ecma_runs.specs.Statements.{all_completions, all_varied, all_hoisted, all_last}
+use Rattle.ecma_runs.specs.Declarations.{all_names, all_declared, all_last_declared, all_vars, all_lexicals, all_imported, imported_from, all_exports}
 use Rattle.ecma_runs.specs.Evaluation.{meaning_by, meaning}
 use Rattle.ecma_runs.specs.Observation.{known_of, exports_in, observe}
 use Rattle.ecma_runs.specs.Names.{passes_by}
@@ -68,6 +68,9 @@ module _ (gone : Id → Bool) (default : stands gone default_name ≡ true) (kno
   layer_kept kind.CallExpr cs h all = refl
   layer_kept kind.OptCall cs h all = refl
   layer_kept kind.NewExpr cs h all = refl
+  layer_kept kind.TsExternalModuleRef cs h all = refl
+  layer_kept kind.TsExportAssignment cs h all = refl
+  layer_kept (kind.TsImportEqualsDecl true false) (name ∷ source ∷ []) h all = (λ required. refl, texts_stay (meaning name).shorthands)
   layer_kept kind.KeyValuePatProp cs h all = refl
   layer_kept kind.AssignPatProp (name ∷ default ∷ []) h all = (refl, texts_stay (meaning name).shorthands)
   layer_kept kind.ObjectLit (properties ∷ []) h all = texts_stay (meaning properties).shorthands
@@ -144,7 +147,8 @@ module _ (gone : Id → Bool) (default : stands gone default_name ≡ true) (kno
   -- in the roles in which the list is used it means what it means
 
   abbrev LikeStatements : Meaning → Meaning → Meaning
-  LikeStatements m m' = record m { vars = m'.vars; lexicals = m'.lexicals; hoisted = m'.hoisted; completion = m'.completion; declared = m'.declared; exports = m'.exports }
+  LikeStatements m m' =
+      record m { vars = m'.vars; lexicals = m'.lexicals; hoisted = m'.hoisted; completion = m'.completion; last = m'.last; declared = m'.declared; last_declared = m'.last_declared; exports = m'.exports }
 
   like_statements : (n : Node) → LikeStatements (meaning n) (statements_seen n) ≡ meaning n
   like_statements n = λ i. record (meaning n) {
@@ -152,6 +156,8 @@ module _ (gone : Id → Bool) (default : stands gone default_name ≡ true) (kno
     lexicals = statements_role (λ m. m.lexicals) all_lexicals (λ n ms. refl) (λ a b. a ++ b) (λ m ms. refl) (λ m. refl) n i;
     hoisted = statements_role (λ m. m.hoisted) all_hoisted (λ n ms. refl) both_evaluations (λ m ms. refl) (λ m. refl) n i;
     completion = statements_role (λ m. m.completion) all_completions (λ n ms. refl) both_evaluations (λ m ms. refl) (λ m. refl) n i;
+    last = statements_role (λ m. m.last) all_last (λ n ms. refl) both_evaluations (λ m ms. refl) (λ m. refl) n i;
+    last_declared = statements_role (λ m. m.last_declared) all_last_declared (λ n ms. refl) (λ a b. a ++ b) (λ m ms. refl) (λ m. refl) n i;
     exports = statements_role (λ m. m.exports) all_exports (λ n ms. refl) (λ a b source. a source ++ b source) (λ m ms. refl) (λ m. refl) n i;
     declared = statements_role (λ m. m.declared) all_declared (λ n ms. refl) (λ a b. a ++ b) (λ m ms. refl) (λ m. refl) n i;
   }

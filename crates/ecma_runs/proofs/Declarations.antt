@@ -7,14 +7,14 @@ use Rattle.ecma_runs.specs.State.{Id, default_name}
 use Rattle.ecma_runs.specs.Exports.{Local, local_as, indirect_as}
 use Rattle.ecma_runs.proofs.Exports.{KeepsDefault, default_if, changed_exports, locals-changed, local_as-changed, indirect_as-changed}
 use Rattle.ecma_runs.specs.Environment.{ids_of, empty, undefined, import_of}
-use Rattle.ecma_runs.specs.Declarations.{all_names, names_of, name_or_default, default_names_of, all_imported, imported_as, imported_of, imported_from, text_of, all_lexicals, lexicals_of, all_vars, vars_of, locals_of, all_parameter_names, parameter_names_of, all_declared, declared_of, shorthands_of, all_cooked, cooked_of, all_plain, is_plain_of, is_computed_of, is_super_of, is_absent_of, is_this_of, all_types, is_type_of, has_body_of, any_constructor, is_constructor_of, has_no_effect, all_exports, exported_from, exports_of}
+use Rattle.ecma_runs.specs.Declarations.{all_names, names_of, name_or_default, default_names_of, all_imported, imported_as, imported_of, imported_from, text_of, all_lexicals, lexicals_of, all_vars, vars_of, locals_of, all_parameter_names, parameter_names_of, all_declared, declared_of, all_last_declared, last_declared_of, shorthands_of, all_cooked, cooked_of, all_plain, is_plain_of, is_computed_of, is_super_of, is_absent_of, is_required_of, is_this_of, all_types, is_type_of, has_body_of, any_constructor, is_constructor_of, has_no_effect, all_exports, exported_from, exports_of}
 use Rattle.ecma_runs.specs.Sought.{meanings}
 use Rattle.ecma_runs.proofs.Names.{changed_ids, changed_bindings, changed_ids-append, ids_of-changed}
 use Rattle.ecma_runs.proofs.Alike.{Change}
 use Rattle.ecma_runs.proofs.Environments.{KeepTexts}
 use Rattle.ecma_runs.proofs.Meanings.{Both, firsts, seconds, empties, undefineds, imports}
 use Rattle.ecma_runs.proofs.Premises.{renamed_kind, KeptLayer}
-use Rattle.ecma_runs.proofs.Lists.{all_stay, all_names_same, all_declared_same, all_parameter_names_same, all_lexicals_same, all_vars_same, all_imported_same, all_exports_same, all_cooked_same, all_plain_same, all_types_same, any_constructor_same}
+use Rattle.ecma_runs.proofs.Lists.{all_stay, all_names_same, all_declared_same, all_last_declared_same, all_parameter_names_same, all_lexicals_same, all_vars_same, all_imported_same, all_exports_same, all_cooked_same, all_plain_same, all_types_same, any_constructor_same}
 use Rattle.ecma_runs.proofs.Classes.{joined}
 
 module _ (c : Change) where
@@ -170,10 +170,16 @@ module _ (c : Change) where
   declared_same kind.ImportDefaultSpecifier (local ∷ []) = local.2.names
   declared_same kind.ImportStarAsSpecifier (local ∷ []) = local.2.names
   declared_same (kind.ImportNamedSpecifier false) (local ∷ name ∷ []) = local.2.names
-  declared_same (kind.TsImportEqualsDecl is_export false) (name ∷ source ∷ []) = name.2.names
   declared_same (kind.TsTypeAliasDecl declare) ps = refl
   declared_same kind.Absent ps = refl
+  declared_same kind.TsExportAssignment ps = refl
+  declared_same (kind.Module shebang) (body ∷ []) = joined_ids _ _ body.2.declared body.2.last_declared
   declared_same _ ps = all_stay c (λ ls ms'. all_declared ms' ≡ changed_ids c.names (all_declared (meanings ls))) (all_declared_same c) ps
+
+  pub last_declared_same : (k : Kind) (ps : List (Both c)) → last_declared_of (renamed_kind c k) (seconds c ps) ≡ changed_ids c.names (last_declared_of k (firsts c ps))
+  last_declared_same kind.List ps = all_stay c (λ ls ms'. all_last_declared ms' ≡ changed_ids c.names (all_last_declared (meanings ls))) (all_last_declared_same c) ps
+  last_declared_same kind.TsExportAssignment (e ∷ []) = e.2.declared
+  last_declared_same _ ps = refl
 
   -- what else is known
 
@@ -201,6 +207,10 @@ module _ (c : Change) where
   pub is_absent_same : (k : Kind) → is_absent_of (renamed_kind c k) ≡ is_absent_of k
   is_absent_same kind.Absent = refl
   is_absent_same _ = refl
+
+  pub is_required_same : (k : Kind) → is_required_of (renamed_kind c k) ≡ is_required_of k
+  is_required_same kind.TsExternalModuleRef = refl
+  is_required_same _ = refl
 
   pub is_this_same : (k : Kind) (ps : List (Both c)) → KeptLayer c k (firsts c ps) → is_this_of (renamed_kind c k) (seconds c ps) ≡ is_this_of k (firsts c ps)
   is_this_same (kind.Ident text ctxt optional) ps kept = kept.1

@@ -215,6 +215,8 @@ module _ (c : Change) {a : List Entered} (w : World (at c a)) where
     value_alike kind.NewExpr (callee ∷ arguments ∷ types ∷ []) u h =
         bind_by d (λ r. read_object (second d w) r >>= λ f. arguments.1.arguments (second d w) >>= λ vs. construct (second d w) f vs) (callee.2.reference w (one c.names _ _ h.0.0))
         (λ r kept. bind_alike d (read_object_alike d w r kept) (λ f. bind_alike d (arguments.2.arguments w (two c.names _ _ _ h.0.0)) (λ vs. construct_alike d w u f vs)))
+    value_alike kind.TsExternalModuleRef (source ∷ []) u h =
+        bind_alike d (callee_by_alike d w u (ToFree (codes "require")) tt) (λ f. bind_alike d (source.2.arguments w (one c.names _ _ h.0.0)) (λ vs. call_alike d w u f vs))
     value_alike (kind.MetaPropExpr NewTarget) [] kept h = bind_alike d (activation_alike d w.scope) (λ a. given_alike d a.1.new_target)
     value_alike (kind.OptChainExpr optional) (base ∷ []) kept h = read_chain_alike optional base (one c.names _ _ h.0.0)
     value_alike _ ps kept h = outside_alike d

@@ -199,15 +199,6 @@ default_exports_of_generators :
     [] (ending.Outside)
 default_exports_of_generators = simp meaning_node refl
 
--- f(1); $import_require.q;
-required_modules :
-    Does 9 nulls []
-    (statement (call (ident (codes "f")) (whole 1 ▸ End))
-    ▸ tree (kind.TsImportEqualsDecl false false) (ident (codes "q") ▸ tree kind.TsExternalModuleRef (string (codes "m") ▸ End) ▸ End)
-    ▸ End)
-    (HostCall 7 shown.Undefined (shown.Num (js_number.Whole (pos 1)) ∷ []) ∷ []) (ending.Outside)
-required_modules = simp meaning_node refl
-
 -- f(1); $enum.E;
 enums :
     Does 9 nulls []

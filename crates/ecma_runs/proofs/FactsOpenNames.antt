@@ -1,5 +1,5 @@
 -- Names that stand outside of the scopes that declare them: each fact is a small module and what node observes of it, by computing. Written by compare/facts.mjs.
-use Rattle.std.proofs.Common.{refl, pos, [], ◌∷◌, None, true, false, codes}
+use Rattle.std.proofs.Common.{refl, pos, [], ◌∷◌, None, false, codes}
 use Rattle.ecma_number.specs.declared.js_number.JsNumber.TheVariants as js_number
 use Rattle.ecma_kind.specs.declared.kind.Kind.TheVariants as kind
 use Rattle.ecma_kind.specs.declared.operators.MethodKind.TheVariants as method
@@ -250,15 +250,15 @@ names_of_namespaces_before_them :
     (HostCall 7 shown.Undefined (shown.Num (js_number.Whole (pos 1)) ∷ []) ∷ []) (ending.Outside)
 names_of_namespaces_before_them = simp meaning_node refl
 
--- f(1); q; $exported_import_equals.q;
-names_of_exported_import_equals_before_them :
+-- f(1); q; $export: (function () { let q; });
+names_within_what_is_exported_last :
     Does 9 nulls []
     (statement (call (ident (codes "f")) (whole 1 ▸ End))
     ▸ statement (ident (codes "q"))
-    ▸ tree (kind.TsImportEqualsDecl true false) (ident (codes "q") ▸ ident (codes "q") ▸ End)
+    ▸ tree kind.TsExportAssignment (function_expression absent End (declare Let (codes "q") absent ▸ End) ▸ End)
     ▸ End)
     (HostCall 7 shown.Undefined (shown.Num (js_number.Whole (pos 1)) ∷ []) ∷ []) (ending.Outside)
-names_of_exported_import_equals_before_them = simp meaning_node refl
+names_within_what_is_exported_last = simp meaning_node refl
 
 -- f(a, b, c, d, e); a: { var a; } for (var b in {}) { var c; } for (var d of []) { var e; }
 names_of_var_in_labelled_statements :

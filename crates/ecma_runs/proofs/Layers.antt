@@ -151,6 +151,9 @@ module _ (fine : Node → Type 0) (f : Node → Node) (known : Known) (t : Telli
   kept_layer kind.CallExpr ms = refl
   kept_layer kind.OptCall ms = refl
   kept_layer kind.NewExpr ms = refl
+  kept_layer kind.TsExternalModuleRef ms = refl
+  kept_layer kind.TsExportAssignment ms = refl
+  kept_layer (kind.TsImportEqualsDecl true false) (name ∷ source ∷ []) = (λ required. refl, texts_stay name.shorthands)
   kept_layer kind.KeyValuePatProp ms = refl
   kept_layer kind.AssignPatProp (name ∷ default ∷ []) = (refl, texts_stay name.shorthands)
   kept_layer kind.ObjectLit (properties ∷ []) = texts_stay properties.shorthands

@@ -54,6 +54,7 @@ mod FactsOpenKeys
 mod FactsOpenPlaces
 mod FactsOpenNames
 mod FactsAliases
+mod FactsAssignments
 mod FactsExports
 mod FactsHeirs
 mod FactsOpenElements

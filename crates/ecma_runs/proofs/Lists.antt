@@ -8,8 +8,8 @@ use Rattle.ecma_runs.specs.Meaning.{Meaning}
 use Rattle.ecma_runs.specs.Expressions.{all_arguments, all_elements, all_texts}
 use Rattle.ecma_runs.specs.Patterns.{all_targets, all_matched, all_parameters}
 use Rattle.ecma_runs.specs.Classes.{all_code, all_defined, all_fields, all_statics}
-use Rattle.ecma_runs.specs.Statements.{all_completions, all_varied, all_hoisted}
-use Rattle.ecma_runs.specs.Declarations.{all_names, all_imported, all_lexicals, all_vars, all_parameter_names, all_declared, all_shorthands, all_exports, joined_parts, all_cooked, all_plain, all_types, any_constructor}
+use Rattle.ecma_runs.specs.Statements.{all_completions, all_varied, all_hoisted, all_last}
+use Rattle.ecma_runs.specs.Declarations.{all_names, all_imported, all_lexicals, all_vars, all_parameter_names, all_declared, all_last_declared, all_shorthands, all_exports, joined_parts, all_cooked, all_plain, all_types, any_constructor}
 use Rattle.ecma_runs.proofs.Names.{changed_ids, changed_bindings, changed_ids-append, changed_bindings-append}
 use Rattle.ecma_runs.proofs.Scopes.{one, rest}
 use Rattle.ecma_runs.proofs.Exports.{changed_exports, changed_exports-append}
@@ -29,6 +29,7 @@ module _ (c : Change) where
     pub completion : {a : List Entered} (w : World (at c a)) → Alike (at c a) (m.completion (first (at c a) w)) (give tt)
     pub varied : {a : List Entered} (w : World (at c a)) → Alike (at c a) (m.varied (first (at c a) w)) (give tt)
     pub hoisted : {a : List Entered} (w : World (at c a)) → Alike (at c a) (m.hoisted (first (at c a) w)) (give tt)
+    pub last : {a : List Entered} (w : World (at c a)) → Alike (at c a) (m.last (first (at c a) w)) (give tt)
     pub defined : {a : List Entered} (class object : ℕ) (w : World (at c a)) → Alike (at c a) (m.defined class object (first (at c a) w)) (give [])
     pub fields : {a : List Entered} (keys : List (List ℕ)) (object : Value) (w : World (at c a)) → Alike (at c a) (m.fields keys object (first (at c a) w)) (give keys)
     pub statics : {a : List Entered} (keys : List (List ℕ)) (class : Value) (w : World (at c a)) → Alike (at c a) (m.statics keys class (first (at c a) w)) (give keys)
@@ -37,6 +38,7 @@ module _ (c : Change) where
     pub vars : changed_bindings c.names m.vars ≡ []
     pub parameter_names : changed_ids c.names m.parameter_names ≡ []
     pub declared : changed_ids c.names m.declared ≡ []
+    pub last_declared : changed_ids c.names m.last_declared ≡ []
     pub imported : (source : List ℕ) → changed_bindings c.names (m.imported source) ≡ []
     pub exports : (source : Option (List ℕ)) → changed_exports c.names (m.exports source) ≡ []
     pub cooked : m.cooked ≡ Some []
@@ -101,6 +103,9 @@ module _ (c : Change) where
 
   pub all_declared_same : (items : List Item) → all_declared (behind items) ≡ changed_ids c.names (all_declared (before items))
   all_declared_same = all_ids (λ m. m.declared) all_declared refl (λ m ms. refl) (λ p. p.2.declared) (λ m silent. silent.declared)
+
+  pub all_last_declared_same : (items : List Item) → all_last_declared (behind items) ≡ changed_ids c.names (all_last_declared (before items))
+  all_last_declared_same = all_ids (λ m. m.last_declared) all_last_declared refl (λ m ms. refl) (λ p. p.2.last_declared) (λ m silent. silent.last_declared)
 
   pub all_parameter_names_same : (items : List Item) → all_parameter_names (behind items) ≡ changed_ids c.names (all_parameter_names (before items))
   all_parameter_names_same = all_ids (λ m. m.parameter_names) all_parameter_names refl (λ m ms. refl) (λ p. p.2.parameter_names) (λ m silent. silent.parameter_names)
@@ -198,6 +203,11 @@ module _ (c : Change) {a : List Entered} (w : World (at c a)) where
   all_hoisted_alike [] h = give_alike d tt
   all_hoisted_alike (Stays p ∷ items) h = bind_alike d (p.2.hoisted w (one c.names _ _ h)) (λ _. all_hoisted_alike items (rest c.names _ _ h))
   all_hoisted_alike (Goes m silent ∷ items) h = skip d tt (λ _. all_hoisted (behind c items) (second d w)) (silent.hoisted w) (λ _. all_hoisted_alike items h)
+
+  pub all_last_alike : (items : List (Item c)) → Standing c w.scope (all_sought (seekers_before c items)) → Alike d (all_last (before c items) (first d w)) (all_last (behind c items) (second d w))
+  all_last_alike [] h = give_alike d tt
+  all_last_alike (Stays p ∷ items) h = bind_alike d (p.2.last w (one c.names _ _ h)) (λ _. all_last_alike items (rest c.names _ _ h))
+  all_last_alike (Goes m silent ∷ items) h = skip d tt (λ _. all_last (behind c items) (second d w)) (silent.last w) (λ _. all_last_alike items h)
 
   pub all_matched_alike : (items : List (Item c)) → Standing c w.scope (all_sought (seekers_before c items)) → (v : Value) → Alike d (all_matched (before c items) v (first d w)) (all_matched (behind c items) v (second d w))
   all_matched_alike [] h v = give_alike d tt

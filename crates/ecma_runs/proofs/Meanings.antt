@@ -110,6 +110,7 @@ module _ (c : Change) where
     pub completion : {a : List Entered} → EvaluatesAlike a s.sought m.completion m'.completion
     pub varied : {a : List Entered} → EvaluatesAlike a s.sought m.varied m'.varied
     pub hoisted : {a : List Entered} → EvaluatesAlike a s.sought m.hoisted m'.hoisted
+    pub last : {a : List Entered} → EvaluatesAlike a s.sought m.last m'.last
     pub effect : {a : List Entered} → EvaluatesAlike a s.sought m.effect m'.effect
     pub test : {a : List Entered} → EvaluatesAlike a s.sought m.test m'.test
     pub caught : {a : List Entered} (v : Value) → EvaluatesAlike a s.sought (m.caught v) (m'.caught v)
@@ -131,6 +132,7 @@ module _ (c : Change) where
     pub locals : m'.locals ≡ changed_bindings c.names m.locals
     pub parameter_names : m'.parameter_names ≡ changed_ids c.names m.parameter_names
     pub declared : m'.declared ≡ changed_ids c.names m.declared
+    pub last_declared : m'.last_declared ≡ changed_ids c.names m.last_declared
     pub imported : (source : List ℕ) → m'.imported source ≡ changed_bindings c.names (m.imported source)
     pub text : KeepTexts c m.shorthands → m'.text ≡ m.text
     pub exports : (source : Option (List ℕ)) → m'.exports source ≡ changed_exports c.names (m.exports source)
@@ -139,6 +141,7 @@ module _ (c : Change) where
     pub is_computed : m'.is_computed ≡ m.is_computed
     pub is_super : m'.is_super ≡ m.is_super
     pub is_absent : m'.is_absent ≡ m.is_absent
+    pub is_required : m'.is_required ≡ m.is_required
     pub is_this : m'.is_this ≡ m.is_this
     pub is_type : m'.is_type ≡ m.is_type
     pub has_body : m'.has_body ≡ m.has_body
@@ -172,6 +175,7 @@ module _ (c : Change) where
       completion = λ w z. same.completion w stand;
       varied = λ w z. same.varied w stand;
       hoisted = λ w z. same.hoisted w stand;
+      last = λ w z. same.last w stand;
       effect = λ w z. same.effect w stand;
       test = λ w z. same.test w stand;
       caught = λ v w z. same.caught v w stand;
@@ -190,6 +194,7 @@ module _ (c : Change) where
       locals = same.locals;
       parameter_names = same.parameter_names;
       declared = same.declared;
+      last_declared = same.last_declared;
       imported = same.imported;
       text = same.text;
       exports = same.exports;
@@ -198,6 +203,7 @@ module _ (c : Change) where
       is_computed = same.is_computed;
       is_super = same.is_super;
       is_absent = same.is_absent;
+      is_required = same.is_required;
       is_this = same.is_this;
       is_type = same.is_type;
       has_body = same.has_body;

@@ -260,6 +260,9 @@ module _ (to : Id → Id) (m : Node) (may : MayMeet to m) where
   layer_kept kind.CallExpr cs h p t b = refl
   layer_kept kind.OptCall cs h p t b = refl
   layer_kept kind.NewExpr cs h p t b = refl
+  layer_kept kind.TsExternalModuleRef cs h p t b = refl
+  layer_kept kind.TsExportAssignment cs h p t b = refl
+  layer_kept (kind.TsImportEqualsDecl true false) (name ∷ source ∷ []) h p t b = (λ required. refl, listed name t)
   layer_kept kind.KeyValuePatProp cs h p t b = refl
   layer_kept kind.AssignPatProp (name ∷ default ∷ []) h p t b = (refl, listed name t)
   layer_kept kind.ObjectLit (properties ∷ []) h p t b = listed properties t

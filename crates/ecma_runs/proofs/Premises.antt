@@ -42,6 +42,9 @@ module _ (c : Change) where
   KeptLayer kind.CallExpr ms = c.uses ≡ true
   KeptLayer kind.OptCall ms = c.uses ≡ true
   KeptLayer kind.NewExpr ms = c.uses ≡ true
+  KeptLayer kind.TsExternalModuleRef ms = c.uses ≡ true
+  KeptLayer kind.TsExportAssignment ms = c.uses ≡ true
+  KeptLayer (kind.TsImportEqualsDecl true false) (name ∷ source ∷ []) = (source.is_required ≡ true → c.uses ≡ true) × KeepTexts c name.shorthands
   KeptLayer kind.KeyValuePatProp ms = c.uses ≡ true
   KeptLayer kind.AssignPatProp (name ∷ default ∷ []) = (c.uses ≡ true) × KeepTexts c name.shorthands
   KeptLayer kind.ObjectLit (properties ∷ []) = KeepTexts c properties.shorthands

@@ -52,6 +52,7 @@ here_layer n kind.TsTypeParamDecl ns = refl
 here_layer n kind.TsTypeParamInstantiation ns = refl
 here_layer n kind.TsQualifiedName (left ∷ right ∷ []) = refl
 here_layer n (kind.TsImportEqualsDecl false false) (name ∷ source ∷ []) = refl
+here_layer n (kind.TsImportEqualsDecl true false) (name ∷ source ∷ []) = none_listed (meaning source.0).is_required _ _ refl refl
 here_layer n k ns = none_listed (has_no_effect k (map meaning (map (λ e. e.0) ns))) (no_effect n) (role_by n k (map meaning (map (λ e. e.0) ns))) refl refl
 
 pub here_is : (n : Node) → Listed n
@@ -117,6 +118,9 @@ module _ (to : Id → Id) (m : Node) (renaming : IsRenaming to m) where
   layer_kept kind.CallExpr cs h p t = refl
   layer_kept kind.OptCall cs h p t = refl
   layer_kept kind.NewExpr cs h p t = refl
+  layer_kept kind.TsExternalModuleRef cs h p t = refl
+  layer_kept kind.TsExportAssignment cs h p t = refl
+  layer_kept (kind.TsImportEqualsDecl true false) (name ∷ source ∷ []) h p t = (λ required. refl, listed name t)
   layer_kept kind.KeyValuePatProp cs h p t = refl
   layer_kept kind.AssignPatProp (name ∷ default ∷ []) h p t = (refl, listed name t)
   layer_kept kind.ObjectLit (properties ∷ []) h p t = listed properties t

@@ -1,5 +1,5 @@
 -- The script of the facts about small modules.
-use Rattle.std.proofs.Common.{◌≡◌, ℕ, pos, List, [], ◌∷◌, false, codes}
+use Rattle.std.proofs.Common.{◌≡◌, ℕ, pos, List, [], ◌∷◌, ◌++◌, false, codes}
 use Rattle.ecma_number.specs.declared.js_number.JsNumber.TheVariants.{Whole}
 use Rattle.ecma_config.specs.declared.config.Config.{Config}
 use Rattle.ecma_config.specs.declared.config.ImportsNotUsedAsValues.TheVariants.{Remove}
@@ -40,7 +40,19 @@ usual = record {
   ts_enum_is_mutable = false;
 }
 
+-- in a CommonJS module `require`, `exports` and `module` are its values 10, 11 and 12
+abbrev pub common_js_frees : List FreeValue
+common_js_frees =
+    frees ++ record { name = codes "require"; value = shown.Host 10 } ∷ record { name = codes "exports"; value = shown.Host 11 } ∷ record { name = codes "module"; value = shown.Host 12 } ∷ []
+
 -- that the module with this body has these events and this ending, in so many turns, where the host gives these answers and then does these actions
-abbrev pub Does : ℕ → List Answer → List Action → Trees → List Event → Ending → Type 0
-Does turns answers actions body events end =
+-- where free names have these values
+abbrev pub DoesWith : List FreeValue → ℕ → List Answer → List Action → Trees → List Event → Ending → Type 0
+DoesWith frees turns answers actions body events end =
     observe turns usual (module' body) (record { imports = imports; meta_url = codes "file:///m.js"; frees = frees; answers = answers; actions = actions }) ≡ record { events = events; ending = end }
+
+abbrev pub Does : ℕ → List Answer → List Action → Trees → List Event → Ending → Type 0
+Does = DoesWith frees
+
+abbrev pub DoesInCommonJs : ℕ → List Answer → List Action → Trees → List Event → Ending → Type 0
+DoesInCommonJs = DoesWith common_js_frees

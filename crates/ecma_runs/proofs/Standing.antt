@@ -3,13 +3,14 @@ use Rattle.std.proofs.Common.{◌≡◌, ℕ, ◌++◌, ◌&&◌, refl, sym, ap,
 use Rattle.std.specs.List.{list_all}
 use Rattle.ecma_kind.specs.declared.kind.Kind.{Kind}
 use Rattle.ecma_kind.specs.declared.kind.Kind.TheVariants as kind
+use Rattle.ecma_kind.specs.declared.operators.AssignOp.TheVariants.{Assign}
 use Rattle.ecma_kind.specs.declared.operators.VarDeclKind.TheVariants.{Var, Let, Const}
 use Rattle.ecma_tree.specs.declared.node.Node.{Node, Node-F, fold-roll-Node, ind-Node, roll-Node}
 use Rattle.ecma_runs.specs.State.{Id, default_name, Binding}
 use Rattle.ecma_runs.specs.Environment.{empty, undefined, import_of}
 use Rattle.ecma_runs.specs.Meaning.{Meaning}
 use Rattle.ecma_runs.specs.Declarations.{all_names, names_of, name_or_default, default_names_of, all_imported, imported_as, imported_of, imported_from, all_lexicals, lexicals_of, all_vars, vars_of, locals_of, has_no_effect, all_exports, exported_from, exports_of}
-use Rattle.ecma_runs.specs.Evaluation.{role_by, no_effect, constant_meaning, meaning_by, meaning}
+use Rattle.ecma_runs.specs.Evaluation.{role_by, no_effect, free_meaning, text_key, constant_meaning, set_export, meaning_by, meaning}
 use Rattle.ecma_runs.specs.Names.{passes_by, passes_here, ids_pass}
 use Rattle.ecma_runs.proofs.Layer.{meaning-roll}
 use Rattle.ecma_runs.specs.Environment.{ids_of}
@@ -237,6 +238,12 @@ module _ (test : Id → Bool) where
       let declarator : Part = role_part n (kind.VarDeclarator false) (binding ∷ source ∷ []) refl in
       role_declares n (kind.VarDecl Const false) (role_part n kind.List (declarator ∷ []) refl ∷ []) refl
 
+  abbrev export_part : Node → Part → Part → Part
+  export_part n name source =
+      let free : Part = (free_meaning n (codes "exports"), record { names = tt; default_names = λ d. tt; lexicals = λ d. tt; vars = tt; locals = λ d. tt; imported = λ from. tt; exports = λ from d. tt }) in
+      let key : Part = (text_key n name.0, record { names = tt; default_names = λ d. tt; lexicals = λ d. tt; vars = tt; locals = λ d. tt; imported = λ from. tt; exports = λ from d. tt }) in
+      role_part n (kind.AssignExpr Assign) (role_part n kind.MemberExpr (free ∷ key ∷ []) refl ∷ source ∷ []) refl
+
   either_declares : (b : Bool) (m m' : Meaning) → Declares m → Declares m' → Declares (cond b m m')
   either_declares true m m' hm hk = hm
   either_declares false m m' hm hk = hk
@@ -254,6 +261,9 @@ module _ (test : Id → Bool) where
   layer_declares n kind.TsTypeParamInstantiation ps h = role_declares n kind.Absent [] refl
   layer_declares n kind.TsQualifiedName (left ∷ right ∷ []) h = role_declares n kind.MemberExpr (left ∷ right ∷ []) refl
   layer_declares n (kind.TsImportEqualsDecl false false) (name ∷ source ∷ []) h = constant_declares n name source
+  layer_declares n (kind.TsImportEqualsDecl true false) (name ∷ source ∷ []) h =
+      either_declares source.0.is_required (constant_meaning n name.0 (set_export n name.0 source.0)) (role_by n kind.ExportDecl (constant_meaning n name.0 source.0 ∷ []))
+      (constant_declares n name (export_part n name source)) (role_declares n kind.ExportDecl ((constant_meaning n name.0 source.0, constant_declares n name source) ∷ []) refl)
   layer_declares n k ps h = either_declares (has_no_effect k (parts ps)) (no_effect n) (role_by n k (parts ps)) (role_declares n (kind.TsTypeAliasDecl false) [] refl) (role_declares n k ps h)
 
   -- a tree whose identifiers pass

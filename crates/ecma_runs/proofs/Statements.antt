@@ -1,5 +1,5 @@
 -- Statements do alike where their parts do.
-use Rattle.std.proofs.Common.{◌≡◌, ℕ, zero, suc, ◌+◌, ◌⊎◌, inl, inr, sym, ap, subst, suc-add, ◌++◌, ◌∙◌, List, [], ◌∷◌, map, None, true, false}
+use Rattle.std.proofs.Common.{◌≡◌, ℕ, zero, suc, ◌+◌, ◌⊎◌, inl, inr, sym, ap, subst, suc-add, ◌++◌, ◌∙◌, List, [], ◌∷◌, map, None, true, false, codes}
 use Rattle.ecma_kind.specs.declared.kind.Kind.{Kind}
 use Rattle.ecma_kind.specs.declared.kind.Kind.TheVariants as kind
 use Rattle.ecma_kind.specs.declared.operators.VarDeclKind.TheVariants.{Var, Let, Const}
@@ -10,8 +10,8 @@ use Rattle.ecma_runs.specs.Meaning.{inside}
 use Rattle.ecma_runs.proofs.Names.{changed_entered, changed_scope}
 use Rattle.ecma_runs.proofs.Exports.{default_ids}
 use Rattle.ecma_runs.specs.Run.{◌>>=◌, give, when, TurnsSpent, Run}
-use Rattle.ecma_runs.specs.Environment.{copy_environment, empty, initialize}
-use Rattle.ecma_runs.specs.Statements.{rounds, while, do_while, for_rounds, for_loop, block, all_completions, completion_of, effect_of, all_varied, varied_of, all_hoisted, hoisted_of, caught_of}
+use Rattle.ecma_runs.specs.Environment.{ToFree, ToMember, copy_environment, empty, initialize}
+use Rattle.ecma_runs.specs.Statements.{rounds, while, do_while, for_rounds, for_loop, block, all_completions, completion_of, effect_of, all_varied, varied_of, all_hoisted, hoisted_of, all_last, last_of, caught_of}
 use Rattle.ecma_runs.specs.State.{Id}
 use Rattle.ecma_runs.specs.Environment.{ids_of}
 use Rattle.ecma_runs.specs.Sought.{meanings, all_sought, sought_of}
@@ -21,7 +21,8 @@ use Rattle.ecma_runs.proofs.Alike.{Change, Standing, Alike, excused_alike, bind_
 use Rattle.ecma_runs.proofs.Environments.{beside, Knows, enter_alike, copy_alike, initialize_alike}
 use Rattle.ecma_runs.proofs.Meanings.{at, World, first, second, inward, later, newest, within, Both, seekers, firsts, seconds, empties}
 use Rattle.ecma_runs.proofs.Premises.{renamed_kind, KeptLayer, Placed, PlacedNode}
-use Rattle.ecma_runs.proofs.Lists.{all_stay, all_completions_alike, all_varied_alike, all_hoisted_alike}
+use Rattle.ecma_runs.proofs.Lists.{all_stay, all_completions_alike, all_varied_alike, all_hoisted_alike, all_last_alike}
+use Rattle.ecma_runs.proofs.Functions.{read_object_alike, write_alike}
 use Rattle.ecma_runs.proofs.Expressions.{value_alike}
 
 module _ (c : Change) where
@@ -101,7 +102,7 @@ module _ (c : Change) {a : List Entered} (w : World (at c a)) where
   pub completion_alike : (k : Kind) (ps : List (Both c)) → KeptLayer c k (firsts c ps) → Placed c w.scope k (seekers c ps) → Alike d (completion_of k (firsts c ps) (first d w)) (completion_of (renamed_kind c k) (seconds c ps) (second d w))
   completion_alike kind.Absent ps kept h = give_alike d tt
   completion_alike kind.List ps kept h = all_stay c (λ ls ms'. Standing c w.scope (all_sought ls) → Alike d (all_completions (meanings ls) (first d w)) (all_completions ms' (second d w))) (all_completions_alike c w) ps h.0
-  completion_alike (kind.Module shebang) (body ∷ []) kept h = body.2.completion w (one c.names _ _ h.0)
+  completion_alike (kind.Module shebang) (body ∷ []) kept h = bind_alike d (body.2.completion w (one c.names _ _ h.0)) (λ _. body.2.last w (one c.names _ _ h.0))
   completion_alike kind.ExprStmt (e ∷ []) kept h = bind_alike d (e.2.value w (one c.names _ _ h.0)) (λ _. give_alike d tt)
   completion_alike (kind.VarDecl Var false) (declarators ∷ []) kept h = declarators.2.varied w (one c.names _ _ h.0)
   completion_alike (kind.VarDecl Let false) (declarators ∷ []) kept h = declarators.2.completion w (one c.names _ _ h.0)
@@ -136,6 +137,7 @@ module _ (c : Change) {a : List Entered} (w : World (at c a)) where
       (bind_alike d (declaration.2.value w (rest c.names declaration.0.meaning.default_names declaration.0.seeks.sought h.0)) (λ v. default_alike declaration (one c.names declaration.0.meaning.default_names declaration.0.seeks.sought h.0) v)))
   completion_alike (kind.NamedExport false) ps kept h = give_alike d tt
   completion_alike (kind.ExportAll false) ps kept h = give_alike d tt
+  completion_alike kind.TsExportAssignment ps kept h = give_alike d tt
   completion_alike (kind.TsTypeAliasDecl declare) ps kept h = give_alike d tt
   completion_alike _ ps kept h = outside_alike d
 
@@ -156,6 +158,12 @@ module _ (c : Change) {a : List Entered} (w : World (at c a)) where
       (bind_alike d (declaration.2.default_made w s) (λ f. default_alike declaration (one c.names declaration.0.meaning.default_names declaration.0.seeks.sought s) (Own f))) (give_alike d tt))
   hoisted_alike (kind.FnDecl false) (name ∷ function ∷ []) s = rw (name.2.names) (bind_alike d (function.2.made Plain None w (rest c.names (name.0.meaning.names) _ s)) (λ f. initialize_alike d w.scope w.there name.0.meaning.names (one c.names (name.0.meaning.names) _ s) (Own f)))
   hoisted_alike _ ps s = give_alike d tt
+
+  pub last_alike : (k : Kind) (ps : List (Both c)) → KeptLayer c k (firsts c ps) → Standing c w.scope (sought_of k (seekers c ps)) → Alike d (last_of k (firsts c ps) (first d w)) (last_of (renamed_kind c k) (seconds c ps) (second d w))
+  last_alike kind.List ps kept s = all_stay c (λ ls ms'. Standing c w.scope (all_sought ls) → Alike d (all_last (meanings ls) (first d w)) (all_last ms' (second d w))) (all_last_alike c w) ps s
+  last_alike kind.TsExportAssignment (e ∷ []) u s =
+      bind_alike d (read_object_alike d w (ToFree (codes "module")) tt) (λ o. bind_alike d (e.2.value w (one c.names _ _ s)) (λ v. write_alike d w (ToMember o (codes "exports")) u v))
+  last_alike _ ps kept s = give_alike d tt
 
   pub caught_alike : (k : Kind) (ps : List (Both c)) → Placed c w.scope k (seekers c ps) → (v : Value) → Alike d (caught_of k (firsts c ps) v (first d w)) (caught_of (renamed_kind c k) (seconds c ps) v (second d w))
   caught_alike kind.Absent ps h v = throw_alike d v

@@ -174,10 +174,21 @@ declared_of (kind.TsModuleDecl false global) (name ∷ body ∷ []) = name.names
 declared_of kind.ImportDefaultSpecifier (local ∷ []) = local.names
 declared_of kind.ImportStarAsSpecifier (local ∷ []) = local.names
 declared_of (kind.ImportNamedSpecifier false) (local ∷ name ∷ []) = local.names
-declared_of (kind.TsImportEqualsDecl is_export false) (name ∷ source ∷ []) = name.names
 declared_of (kind.TsTypeAliasDecl declare) children = []
 declared_of kind.Absent children = []
+declared_of kind.TsExportAssignment children = []
+declared_of (kind.Module shebang) (body ∷ []) = body.declared ++ body.last_declared
 declared_of _ children = all_declared children
+
+abbrev pub all_last_declared : List Meaning → List Id
+all_last_declared [] = []
+all_last_declared (m ∷ ms) = m.last_declared ++ all_last_declared ms
+
+-- in what is done behind all items of a module
+abbrev pub last_declared_of : Kind → List Meaning → List Id
+last_declared_of kind.List items = all_last_declared items
+last_declared_of kind.TsExportAssignment (e ∷ []) = e.declared
+last_declared_of _ children = []
 
 abbrev pub all_shorthands : List Meaning → List Id
 all_shorthands [] = []
@@ -232,6 +243,11 @@ is_super_of _ = false
 abbrev pub is_absent_of : Kind → Bool
 is_absent_of kind.Absent = true
 is_absent_of _ = false
+
+-- `require("m")` on the right of an import
+abbrev pub is_required_of : Kind → Bool
+is_required_of kind.TsExternalModuleRef = true
+is_required_of _ = false
 
 -- the name of a parameter that types `this`
 abbrev pub is_this_of : Kind → List Meaning → Bool

@@ -1,23 +1,24 @@
 -- What a node means, made of what its children mean; and what a call of a function of the program does.
-use Rattle.std.specs.Prelude.{ℕ, zero, suc, List, [], ◌∷◌, map, Option, Some, None, false, cond}
+use Rattle.std.specs.Prelude.{ℕ, zero, suc, List, [], ◌∷◌, map, Option, Some, None, true, false, cond, codes}
 use Rattle.ecma_kind.specs.declared.kind.Kind.{Kind}
 use Rattle.ecma_kind.specs.declared.kind.Kind.TheVariants as kind
+use Rattle.ecma_kind.specs.declared.operators.AssignOp.TheVariants.{Assign}
 use Rattle.ecma_kind.specs.declared.operators.VarDeclKind.TheVariants.{Const}
 use Rattle.ecma_tree.specs.declared.node.Node.{Node, Node-F, fold-Node}
 use Rattle.ecma_tree.specs.Nodes.{node_of}
 use Rattle.ecma_runs.specs.Values.{Value, Undefined, Own, Host, Error}
 use Rattle.ecma_runs.specs.State.{Binding, Given, Activation, Sort, Plain, Method, Arrow, BaseClass, DerivedClass, Closure, Object, Ordinary}
-use Rattle.ecma_runs.specs.Run.{Ended, TurnsSpent, Run, ◌>>=◌, give, outside, reference_error, type_error, when, given_or, returned_by, spend}
+use Rattle.ecma_runs.specs.Run.{Ended, TurnsSpent, Run, ◌>>=◌, give, outside, reference_error, type_error, when, given, given_or, returned_by, spend}
 use Rattle.ecma_runs.specs.Host.{Provided}
-use Rattle.ecma_runs.specs.Environment.{empty, new_environment, activation_at}
+use Rattle.ecma_runs.specs.Environment.{ToFree, empty, new_environment, activation_at}
 use Rattle.ecma_runs.specs.Meaning.{Invocation, AsCall, AsConstruct, Functions, ExecutionContext, inside, Evaluation, Meaning, Known}
 use Rattle.ecma_runs.specs.Objects.{new_object, closure_at}
-use Rattle.ecma_runs.specs.Functions.{pass_function, prototype_for}
+use Rattle.ecma_runs.specs.Functions.{pass_function, prototype_for, read}
 use Rattle.ecma_runs.specs.Expressions.{value_of, reference_of, initial_of, arguments_of, elements_of, texts_of, key_of, chain_of, link_of, test_of}
 use Rattle.ecma_runs.specs.Patterns.{assigned_of, bound_of, matched_of, targets_of, parameters_of}
 use Rattle.ecma_runs.specs.Classes.{made_of, default_made_of, class_made_of, defined_of, fields_of, statics_of, code_of, body_of, field_activation}
-use Rattle.ecma_runs.specs.Statements.{completion_of, varied_of, hoisted_of, effect_of, caught_of}
-use Rattle.ecma_runs.specs.Declarations.{names_of, default_names_of, lexicals_of, vars_of, locals_of, parameter_names_of, declared_of, shorthands_of, imported_of, text_of, cooked_of, is_plain_of, is_computed_of, is_super_of, is_absent_of, is_this_of, is_type_of, has_body_of, is_constructor_of, has_no_effect, exports_of}
+use Rattle.ecma_runs.specs.Statements.{completion_of, varied_of, hoisted_of, last_of, effect_of, caught_of}
+use Rattle.ecma_runs.specs.Declarations.{names_of, default_names_of, lexicals_of, vars_of, locals_of, parameter_names_of, declared_of, last_declared_of, shorthands_of, imported_of, text_of, cooked_of, is_plain_of, is_computed_of, is_super_of, is_absent_of, is_required_of, is_this_of, is_type_of, has_body_of, is_constructor_of, has_no_effect, exports_of}
 
 -- code runs in a record of its own
 abbrev pub in_record : List Binding → Option Activation → Evaluation (Unit {0}) → (ℕ → Value → Run Value) → ExecutionContext → Run Value
@@ -62,6 +63,7 @@ role_by node k children = record {
   completion = completed_of node k children;
   varied = varied_of k children;
   hoisted = hoisted_of k children;
+  last = last_of k children;
   effect = effect_of node k children;
   test = test_of node k children;
   caught = caught_of k children;
@@ -80,6 +82,7 @@ role_by node k children = record {
   locals = locals_of k children;
   parameter_names = parameter_names_of k children;
   declared = declared_of k children;
+  last_declared = last_declared_of k children;
   shorthands = shorthands_of k children;
   imported = imported_of k children;
   text = text_of k children;
@@ -89,6 +92,7 @@ role_by node k children = record {
   is_computed = is_computed_of k;
   is_super = is_super_of k;
   is_absent = is_absent_of k;
+  is_required = is_required_of k;
   is_this = is_this_of k children;
   is_type = is_type_of k children;
   has_body = has_body_of k children;
@@ -103,11 +107,23 @@ ending_chain m = record m { chain = λ x. m.reference x >>= λ r. give (Some r) 
 abbrev pub no_effect : Node → Meaning
 no_effect node = role_by node (kind.TsTypeAliasDecl false) []
 
+-- what a free name means, whatever names the module declares
+abbrev pub free_meaning : Node → List ℕ → Meaning
+free_meaning node name = record (role_by node kind.Absent []) { value = λ x. read x (ToFree name); reference = λ x. give (ToFree name) }
+
+-- a key of the text of a name
+abbrev pub text_key : Node → Meaning → Meaning
+text_key node name = record (role_by node kind.Absent []) { key = λ x. given name.text }
+
 -- what `const name = value` means
 abbrev pub constant_meaning : Node → Meaning → Meaning → Meaning
 constant_meaning node name value =
     role_by node (kind.VarDecl Const false)
     (role_by node kind.List (role_by node (kind.VarDeclarator false) (role_by node kind.BindingIdent (name ∷ role_by node kind.Absent [] ∷ []) ∷ value ∷ []) ∷ []) ∷ [])
+
+-- what `exports.name = value` means, where `exports` is free
+abbrev pub set_export : Node → Meaning → Meaning → Meaning
+set_export node name value = role_by node (kind.AssignExpr Assign) (role_by node kind.MemberExpr (free_meaning node (codes "exports") ∷ text_key node name ∷ []) ∷ value ∷ [])
 
 -- an expression with a type means what the expression means, annotations, type parameters and type arguments what a missing child means, and what has no effect what an alias means, in every role
 abbrev pub meaning_by : Node → Kind → List Meaning → Meaning
@@ -121,9 +137,11 @@ meaning_by node kind.TsSatisfiesExpr (e ∷ type ∷ []) = e
 meaning_by node kind.TsTypeAnn children = role_by node kind.Absent []
 meaning_by node kind.TsTypeParamDecl children = role_by node kind.Absent []
 meaning_by node kind.TsTypeParamInstantiation children = role_by node kind.Absent []
--- a dotted name behind `import a =` means a member, and the import a constant (TypeScript handbook, "Namespaces", "Aliases")
+-- a dotted name behind `import a =` means a member, and the import a constant (TypeScript handbook, "Namespaces", "Aliases", and "Modules - Reference")
 meaning_by node kind.TsQualifiedName (left ∷ right ∷ []) = role_by node kind.MemberExpr (left ∷ right ∷ [])
 meaning_by node (kind.TsImportEqualsDecl false false) (name ∷ source ∷ []) = constant_meaning node name source
+meaning_by node (kind.TsImportEqualsDecl true false) (name ∷ source ∷ []) =
+    cond source.is_required (constant_meaning node name (set_export node name source)) (role_by node kind.ExportDecl (constant_meaning node name source ∷ []))
 meaning_by node k children = cond (has_no_effect k children) (no_effect node) (role_by node k children)
 
 -- a node, and what it means

@@ -15,7 +15,7 @@ use Rattle.ecma_tree.specs.declared.node.Node.{Node}
 use Rattle.ecma_runs.specs.Values.{Value, Undefined, Null, Truth, Number, Text, Own, Host, Error, truth_of, is_nullish}
 use Rattle.ecma_runs.specs.State.{Id, Plain, Arrow, Ordinary}
 use Rattle.ecma_runs.specs.Run.{Run, ◌>>=◌, give, outside, type_error, when, given}
-use Rattle.ecma_runs.specs.Environment.{Reference, ToMember, ToSuper, ToImportMeta, ToMetaMember, ToValue, resolved, activation, this, new_environment, set_all, empty}
+use Rattle.ecma_runs.specs.Environment.{Reference, ToFree, ToMember, ToSuper, ToImportMeta, ToMetaMember, ToValue, resolved, activation, this, new_environment, set_all, empty}
 use Rattle.ecma_runs.specs.Meaning.{ExecutionContext, inside, Evaluation, Meaning}
 use Rattle.ecma_runs.specs.Operators.{text_from, number_from, key_from, binary_value, operator_of, short_circuit, logical_operator_of, unary_value, updated}
 use Rattle.ecma_runs.specs.Objects.{super_base, new_object, new_array}
@@ -153,6 +153,8 @@ value_of node kind.SuperPropExpr (super ∷ key ∷ []) x = super_reference key 
 -- 13.3.6 Function Calls, 13.3.5 The new Operator; type arguments have no effect
 value_of node kind.CallExpr (callee ∷ arguments ∷ types ∷ []) x = call_by callee.is_super callee arguments x
 value_of node kind.NewExpr (callee ∷ arguments ∷ types ∷ []) x = callee.reference x >>= λ r. read_object x r >>= λ f. arguments.arguments x >>= λ vs. construct x f vs
+-- a required module is the value of a call of the free `require` (TypeScript handbook, "Modules - Reference")
+value_of node kind.TsExternalModuleRef (source ∷ []) x = callee_by x (ToFree (codes "require")) >>= λ c. source.arguments x >>= λ vs. call x c vs
 -- 13.3.12 Meta Properties
 value_of node (kind.MetaPropExpr NewTarget) [] x = activation x.scope >>= λ a. given a.1.new_target
 -- 13.3.9 Optional Chains

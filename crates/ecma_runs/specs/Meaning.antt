@@ -74,6 +74,8 @@ pub record Meaning : Type 0 where
   pub varied : Evaluation (Unit {0})
   -- as a statement of a scope that is entered: its functions are set (14.2.3 BlockDeclarationInstantiation)
   pub hoisted : Evaluation (Unit {0})
+  -- as an item of a module that is done behind all items
+  pub last : Evaluation (Unit {0})
   -- as the head of `for`, or what follows a round; as the test of `for`
   pub effect : Evaluation (Unit {0})
   pub test : Evaluation Value
@@ -105,8 +107,9 @@ pub record Meaning : Type 0 where
   pub locals : List Binding
   -- the names of the parameters of the function that it is, or whose constructor stands in it
   pub parameter_names : List Id
-  -- all ids that are declared in it
+  -- all ids that are declared in it, and in what is done behind all items
   pub declared : List Id
+  pub last_declared : List Id
   -- the shorthands that it is, or lists: names whose texts are keys
   pub shorthands : List Id
   -- the variables of imports from a source, and the text of it or of an imported name
@@ -123,6 +126,8 @@ pub record Meaning : Type 0 where
   -- `super`, a child that is missing, a parameter that types `this`
   pub is_super : Bool
   pub is_absent : Bool
+  -- `require("m")` on the right of an import
+  pub is_required : Bool
   pub is_this : Bool
   -- an item that is a type alone
   pub is_type : Bool

@@ -35,7 +35,8 @@ passes_here test parts = passes_by test parts.kind && list_all (λ b. b) parts.c
 abbrev pub ids_pass : (Id → Bool) → Node → Bool
 ids_pass test = fold-Node Bool (passes_here test)
 
--- the ids whose texts are keys: shorthands, names in patterns, and names in imports and in lists of exports
+-- the ids whose texts are keys: shorthands, names in patterns, names in imports and in lists of exports, and names of exported imports
+--   export import a = require("m");   // sets `exports.a`
 
 -- the identifiers that a node is or lists, and those that stand as keys in it
 pub record Keys : Type 0 where
@@ -69,6 +70,7 @@ at_keys (kind.Class is_abstract) (super ∷ body ∷ types ∷ super_types ∷ i
 at_keys kind.AssignPatProp (name ∷ default ∷ []) = name.here
 at_keys (kind.ImportDecl type_only) (specifiers ∷ source ∷ attributes ∷ []) = source.here
 at_keys (kind.ImportNamedSpecifier is_type_only) (local ∷ name ∷ []) = local.here ++ name.here
+at_keys (kind.TsImportEqualsDecl true false) (name ∷ source ∷ []) = name.here
 at_keys (kind.NamedExport type_only) (specifiers ∷ source ∷ attributes ∷ []) = source.here
 at_keys (kind.ExportNamedSpecifier is_type_only) (exported ∷ name ∷ []) = exported.here ++ name.here
 at_keys kind.ExportNamespaceSpecifier (name ∷ []) = name.here

@@ -1,5 +1,5 @@
 -- What statements and declarations do (ECMAScript, 14 Statements and Declarations, 16.2 Modules).
-use Rattle.std.specs.Prelude.{ℕ, zero, suc, List, [], ◌∷◌, map, false, None}
+use Rattle.std.specs.Prelude.{ℕ, zero, suc, List, [], ◌∷◌, map, false, None, codes}
 use Rattle.ecma_kind.specs.declared.kind.Kind.{Kind}
 use Rattle.ecma_kind.specs.declared.kind.Kind.TheVariants as kind
 use Rattle.ecma_kind.specs.declared.operators.VarDeclKind.TheVariants.{Var, Let, Const}
@@ -7,8 +7,9 @@ use Rattle.ecma_tree.specs.declared.node.Node.{Node}
 use Rattle.ecma_runs.specs.Values.{Value, Own, truth_of}
 use Rattle.ecma_runs.specs.State.{default_name, Entered, Plain}
 use Rattle.ecma_runs.specs.Run.{TurnsSpent, Run, ◌>>=◌, give, throw, return, break, continue, stop, outside, when, catching, finally, round, loop, spend}
-use Rattle.ecma_runs.specs.Environment.{initialize, empty, new_environment, copy_environment}
+use Rattle.ecma_runs.specs.Environment.{ToFree, ToMember, initialize, empty, new_environment, copy_environment}
 use Rattle.ecma_runs.specs.Meaning.{inside, Evaluation, Meaning}
+use Rattle.ecma_runs.specs.Functions.{read_object, write}
 use Rattle.ecma_runs.specs.Expressions.{value_of}
 
 -- loops: a round spends a turn before its body, so no more rounds than turns are needed
@@ -51,7 +52,7 @@ abbrev pub completion_of : Kind → List Meaning → Evaluation (Unit {0})
 completion_of kind.Absent children x = give tt
 completion_of kind.List items x = all_completions items x
 -- 16.2.1.11 Module: Evaluation
-completion_of (kind.Module shebang) (body ∷ []) x = body.completion x
+completion_of (kind.Module shebang) (body ∷ []) x = body.completion x >>= λ _. body.last x
 -- 14.5.1 Expression Statement: Evaluation
 completion_of kind.ExprStmt (e ∷ []) x = e.value x >>= λ _. give tt
 -- 14.3 Declarations and the Variable Statement
@@ -86,8 +87,21 @@ completion_of kind.ExportDefaultDecl (declaration ∷ []) x =
     when declaration.has_body (give tt) (declaration.value x >>= λ v. initialize x.scope declaration.default_names v)
 completion_of (kind.NamedExport false) children x = give tt
 completion_of (kind.ExportAll false) children x = give tt
+-- `export =` is done behind all items (TypeScript handbook, "Modules - Reference")
+completion_of kind.TsExportAssignment children x = give tt
 completion_of (kind.TsTypeAliasDecl declare) children x = give tt
 completion_of _ children x = outside
+
+abbrev pub all_last : List Meaning → Evaluation (Unit {0})
+all_last [] x = give tt
+all_last (m ∷ ms) x = m.last x >>= λ _. all_last ms x
+
+-- what is done behind all items of a module: `export = e` sets `module.exports`, where `module` is free
+abbrev pub last_of : Kind → List Meaning → Evaluation (Unit {0})
+last_of kind.List items x = all_last items x
+last_of kind.TsExportAssignment (e ∷ []) x =
+    read_object x (ToFree (codes "module")) >>= λ o. e.value x >>= λ v. write x (ToMember o (codes "exports")) v
+last_of _ children x = give tt
 
 abbrev pub effect_of : Node → Kind → List Meaning → Evaluation (Unit {0})
 effect_of node kind.Absent children x = give tt

@@ -51,7 +51,9 @@ nothing_meaning n kind.TsNonNullExpr ms h = absurd (cc)
 nothing_meaning n kind.TsInstantiation ms h = absurd (cc)
 nothing_meaning n kind.TsSatisfiesExpr ms h = absurd (cc)
 nothing_meaning n kind.TsQualifiedName ms h = absurd (cc)
-nothing_meaning n (kind.TsImportEqualsDecl false false) ms h = absurd (cc)
+nothing_meaning n (kind.TsImportEqualsDecl is_export false) ms h = absurd (cc)
+nothing_meaning n (kind.TsImportEqualsDecl true true) ms h = refl
+nothing_meaning n (kind.TsImportEqualsDecl false true) ms h = refl
 nothing_meaning n k ms h = cond_true (has_no_effect k ms) h (no_effect n) (role_by n k ms)
 
 does_nothing_means : (n : Node) → does_nothing n ≡ true → meaning n ≡ no_effect absent

@@ -1,5 +1,11 @@
-//! Worked examples of the values of enums: tests alone, with values from outside.
+//! Worked examples of what is known of enums: tests alone, with values from outside.
 #![tactic(auto)]
 
+#[cfg(test)]
+mod reading;
+#[cfg(test)]
+mod reads;
+#[cfg(test)]
+mod records;
 #[cfg(test)]
 mod values;

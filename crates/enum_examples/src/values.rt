@@ -1,89 +1,10 @@
 //! The values of the members of enums, and what they are written as. The values are those of TypeScript 4.8.4, or of node where TypeScript leaves an
 //! initialiser as it stands.
-use ecma_enums::{EnumError, TsEnumRecord, TsEnumRecordValue, record_enum};
-use ecma_number::{JsNumber, ToJsString};
+use crate::reading::{members, told};
 use ecma_print::print_module;
-use ecma_scope::resolve;
-use ecma_text::read_module;
-use ecma_tree::{DUMMY_SP, Expr, Mark, Module, NoMemory, Node, Nodes, PassError, Session};
+use ecma_tree::{DUMMY_SP, Expr, NoMemory, Node, Nodes};
 use std::alloc::Global;
 use std::test::Fail;
-
-// A function that may let go of a node is proved for every kind that it may have: so this one alone does.
-fn let_go(_tree: Module) {}
-
-fn resolve_alone(alloc: Global, tree: &mut Module) -> Result<Mark, PassError> {
-    let mut session = Session::new(1000);
-    let unresolved = session.fresh_mark()?;
-    let top = session.fresh_mark()?;
-    resolve(alloc, &mut session, tree, unresolved, top)?;
-    Ok(unresolved)
-}
-
-/// The members of all enums of a module's list.
-fn recorded(alloc: Global, free: Mark, tree: &Module) -> Result<TsEnumRecord, EnumError> {
-    let mut members = TsEnumRecord::new(alloc);
-    if let Some(items) = tree.children.get(0) {
-        for item in items.children.as_slice() {
-            members = record_enum(alloc, free, members, item)?;
-        }
-    }
-    Ok(members)
-}
-
-fn members_of(alloc: Global, tree: &mut Module) -> Result<TsEnumRecord, EnumError> {
-    match resolve_alone(alloc, tree) {
-        Ok(free) => recorded(alloc, free, tree),
-        Err(_) => Err(EnumError::NoMemory),
-    }
-}
-
-/// The members of all enums of a text.
-fn members(alloc: Global, text: &str) -> Result<TsEnumRecord, EnumError> {
-    if 1000 < text.len() {
-        return Err(EnumError::NoMemory);
-    }
-    match read_module(alloc, text) {
-        Ok(mut tree) => {
-            let found = members_of(alloc, &mut tree);
-            let_go(tree);
-            found
-        }
-        Err(_) => Err(EnumError::NoMemory),
-    }
-}
-
-fn push_value(alloc: Global, out: &mut String, value: &TsEnumRecordValue) -> Result<(), NoMemory> {
-    match value {
-        TsEnumRecordValue::String(text) => {
-            out.push_str("'")?;
-            out.push_str(text.as_str())?;
-        }
-        TsEnumRecordValue::Number(JsNumber::NegZero) => out.push_str("-0")?,
-        TsEnumRecordValue::Number(number) => out.push_str(number.to_js_string(alloc)?.as_str())?,
-        TsEnumRecordValue::Opaque => out.push_str("opaque")?,
-        TsEnumRecordValue::Void => out.push_str("void")?,
-    }
-    Ok(())
-}
-
-/// The values of members, with a space before each.
-fn shown(alloc: Global, members: &TsEnumRecord) -> Result<String, NoMemory> {
-    let mut out = String::new(alloc);
-    for entry in members.as_slice() {
-        out.push_str(" ")?;
-        push_value(alloc, &mut out, &entry.value)?;
-    }
-    Ok(out)
-}
-
-fn told(alloc: Global, text: &str) -> Result<String, Fail> {
-    match members(alloc, text) {
-        Ok(members) => Ok(shown(alloc, &members)?),
-        Err(EnumError::EnumNumber { at }) => Ok(format!(in alloc; " beyond {at}")?),
-        Err(EnumError::NoMemory) => Err(Fail::from("no memory")),
-    }
-}
 
 /// Enums, and the values of their members: a text behind `'`, `void` behind what is no number, `opaque` for what is not known before it runs; or where the
 /// first number is that is beyond those that are computed.
@@ -169,7 +90,7 @@ const VALUES: [(&str, &str); 72] = [
 fn members_have_their_values(rt: HostRuntime) -> Result<(), Fail> {
     let alloc = rt.alloc();
     for (text, want) in VALUES {
-        let found = told(alloc, text)?;
+        let found = told(alloc, false, text)?;
         assert_eq!(rt; found.as_str().trim(), want, "{text}");
     }
     Ok(())

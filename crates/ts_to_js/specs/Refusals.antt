@@ -12,7 +12,10 @@ use Rattle.ecma_scope.specs.declared.error.ScopeError.{ScopeError}
 use Rattle.ecma_scope.specs.declared.error.ScopeError.TheVariants as scopes
 use Rattle.ecma_scope.specs.Clashes.{first_redeclared}
 use Rattle.ecma_scope.specs.Needs.{needed}
-use Rattle.ecma_forms.specs.Forms.{first_unlowered}
+use Rattle.ecma_forms.specs.Forms.{first_untaken}
+use Rattle.ecma_lower.specs.Checking.{first_refusal}
+use Rattle.ecma_lower.specs.declared.error.LowerError.{LowerError}
+use Rattle.ecma_lower.specs.declared.error.LowerError.TheVariants as lowering
 use Rattle.ts_to_js.specs.Stages.{kept, ready_of}
 use Rattle.ts_to_js.specs.declared.error.TsError.{TsError}
 use Rattle.ts_to_js.specs.declared.error.TsError.TheVariants as error
@@ -32,14 +35,20 @@ refusal_of_exports (exports.Unbound name) = error.ExportUnbound name
 refusal_of_exports (exports.Captured name) = error.Captured name
 refusal_of_exports exports.NoMemory = error.NoMemory
 
--- a form that is not lowered yet, or too few contexts
+abbrev pub refusal_of_lowering : LowerError → TsError
+refusal_of_lowering (lowering.ExportAssignTwice at) = error.ExportAssignTwice at
+refusal_of_lowering (lowering.ImportAssign at) = error.ImportAssign at
+refusal_of_lowering (lowering.ExportAssign at) = error.ExportAssign at
+refusal_of_lowering lowering.NoMemory = error.NoMemory
+
+-- a form that is not taken yet, or too few contexts
 abbrev pub refused_form : Option ℕ → Bool → Option TsError
 refused_form (Some at) short = Some (error.Syntax at)
 refused_form None short = cond short (Some error.Spent) None
 
 -- a tree that was read, where so many contexts are left
-abbrev pub refused_early : ℕ → Node → Option TsError
-refused_early left tree = refused_form (first_unlowered tree) (nat_lt left (needed tree))
+abbrev pub refused_early : Config → ℕ → Node → Option TsError
+refused_early config left tree = refused_form (first_untaken config.import_export_assign_config tree) (nat_lt left (needed tree))
 
 -- a name that is declared again, a name that is exported and not declared, or one that is exported and captured, in this order; of each the first in the text is told
 abbrev pub refused_name : Option (List ℕ) → Option (List ℕ) → Option (List ℕ) → Option TsError
@@ -48,17 +57,24 @@ refused_name None (Some name) captured = Some (error.ExportUnbound name)
 refused_name None None (Some name) = Some (error.Captured name)
 refused_name None None None = None
 
--- of what the options leave of the tree
-abbrev pub refused_late : Config → ℕ → Node → Option TsError
-refused_late config left tree = refused_name (first_redeclared (kept config left tree)) (first_unbound left (ready_of config left tree)) (first_captured left (ready_of config left tree))
+-- an assignment that is not lowered
+abbrev pub refused_assignment : Option LowerError → Option TsError
+refused_assignment None = None
+refused_assignment (Some refusal) = Some (refusal_of_lowering refusal)
 
 -- the former comes first
 abbrev pub refused_by : Option TsError → Option TsError → Option TsError
 refused_by (Some refusal) late = Some refusal
 refused_by None late = late
 
+-- of what the options leave of the tree
+abbrev pub refused_late : Config → ℕ → Node → Option TsError
+refused_late config left tree =
+    refused_by (refused_assignment (first_refusal config.import_export_assign_config (kept config left tree)))
+    (refused_name (first_redeclared (kept config left tree)) (first_unbound left (ready_of config left tree)) (first_captured left (ready_of config left tree)))
+
 abbrev pub refused : Config → ℕ → Node → Option TsError
-refused config left tree = refused_by (refused_early left tree) (refused_late config left tree)
+refused config left tree = refused_by (refused_early config left tree) (refused_late config left tree)
 
 -- what is read of a text needs so many contexts at most
 abbrev pub ReadingNeedsAtMost : List ℕ → ℕ → Type 0

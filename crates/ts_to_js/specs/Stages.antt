@@ -6,7 +6,7 @@ use Rattle.ecma_config.specs.declared.config.Config.{Config}
 use Rattle.ecma_elide_sources.specs.Sources.{elided_source}
 use Rattle.ecma_hygiene.specs.Hygienic.{IsHygienic}
 use Rattle.ecma_lower.specs.Marking.{has_module_declaration}
-use Rattle.ecma_pipeline.specs.Ways.{plain_of, prepared}
+use Rattle.ecma_pipeline.specs.Ways.{lowered, plain_of}
 use Rattle.ecma_scope.specs.Resolved.{resolved}
 
 -- without what the options drop of its imports and exports
@@ -18,11 +18,11 @@ kept config left tree = elided_source config left (left - 1) (left - 2) tree
 abbrev pub with_bindings : Config → ℕ → Node → Node
 with_bindings config left tree = resolved left (left - 1) (left - 2) (kept config left tree)
 
--- what would be read as something else has parentheses, and names with types round them are bound where names are bound
+-- what would be read as something else has parentheses, names with types round them are bound where names are bound, and assignments are lowered
 abbrev pub ready_of : Config → ℕ → Node → Node
-ready_of config left tree = prepared left (left - 1) (left - 2) (kept config left tree)
+ready_of config left tree = lowered config.import_export_assign_config left (left - 1) (left - 2) (kept config left tree)
 
 -- the tree that is written: that without its types, with `export {}` where nothing else says that it is a module, and with the texts that tell its bindings apart
 abbrev pub IsFinal : Config → ℕ → Node → Node → Type 0
 IsFinal config left source final =
-    IsHygienic (plain_of config.no_empty_export (has_module_declaration source) left (left - 1) (left - 2) (kept config left source)) final
+    IsHygienic (plain_of config.import_export_assign_config config.no_empty_export (has_module_declaration source) left (left - 1) (left - 2) (kept config left source)) final

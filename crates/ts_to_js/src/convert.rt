@@ -22,9 +22,9 @@ use ecma_config::Config;
 use ecma_elide_sources::{elide_source, elided_sources_take_as_many_contexts};
 use ecma_enclose::enclose;
 use ecma_exports::check_exports;
-use ecma_forms::first_unlowered;
+use ecma_forms::first_untaken;
 use ecma_hygiene::hygiene;
-use ecma_lower::{has_module_declaration, mark_module};
+use ecma_lower::{check_lowering, has_module_declaration, lower_assignments, mark_module};
 use ecma_pipeline::converted_modules_do_what_their_sources_do;
 use ecma_print::print_module;
 use ecma_scope::{check_scopes, needs, resolve};
@@ -32,7 +32,7 @@ use ecma_strip::strip_type;
 use ecma_text::read_module;
 use ecma_text_contexts::needed_is_bounded_by_the_text;
 use ecma_text_sources::trees_that_are_read_are_read;
-use ecma_tree::{Module, NoMemory, PassError, Session, SyntaxContext};
+use ecma_tree::{Mark, Module, NoMemory, PassError, Session, SyntaxContext};
 use std::alloc::Global;
 use std::mem::ManuallyDrop;
 
@@ -117,18 +117,18 @@ fn convert_tree(
     ensures text { AnswersBy result (ComesOf options.now.config session.old.left (refused options.now.config session.old.left tree) tree) }
     ensures session { Leaves result text.now session.old session.new }
 {
-    accept(session, &tree, text)?;
+    accept(session, &tree, text, &options.config)?;
     convert_accepted(alloc, session, tree, options)
 }
 
-/// Whether nothing of the tree of a text has to be lowered, and contexts enough are left; else the first of these that fails.
-fn accept(session: &Session, tree: &Module, text: &str) -> Result<(), TsError>
+/// Whether each form of the tree of a text is taken, and contexts enough are left; else the first of these that fails.
+fn accept(session: &Session, tree: &Module, text: &str, config: &Config) -> Result<(), TsError>
     requires short { length text.now ≤ LIMIT }
     requires read { reads_as text.now typescript deepest ≡ Ok tree.now }
-    ensures accepted { OnOk result (refused_early session.now.left tree.now ≡ None) }
-    ensures refusal { IfErr result (λ refusal. refused_early session.now.left tree.now ≡ Some refusal) }
+    ensures accepted { OnOk result (refused_early config.now session.now.left tree.now ≡ None) }
+    ensures refusal { IfErr result (λ refusal. refused_early config.now session.now.left tree.now ≡ Some refusal) }
 {
-    if let Some(at) = first_unlowered(tree) {
+    if let Some(at) = first_untaken(config.import_export_assign_config, tree) {
         return Err(TsError::Syntax { at });
     }
     if is_spent(session, tree, text) {
@@ -157,7 +157,7 @@ fn most_needed(text: &str) -> u64
     100 * text.len() as u64 + 20
 }
 
-/// Converts a tree in which nothing has to be lowered, and for which contexts enough are left, if nothing else refuses it.
+/// Converts a tree each form of which is taken, and for which contexts enough are left, if nothing else refuses it.
 fn convert_accepted(
     alloc: Global,
     session: &mut Session,
@@ -199,9 +199,9 @@ fn written(
     Ok(text)
 }
 
-/// Takes out of a tree what the options drop of its imports and exports, encloses what would be read as something else, binds names with types round them, and
-/// gives the tree its bindings: if no name is declared again, and none is exported that is not declared or would be captured. Says how many contexts of the
-/// session would be left then.
+/// Takes out of a tree what the options drop of its imports and exports, encloses what would be read as something else, binds names with types round them, gives
+/// the tree its bindings, and lowers its assignments: if none of these is refused, no name is declared again, and none is exported that is not declared or would be
+/// captured. Says how many contexts of the session would be left then.
 fn make_ready(
     alloc: Global,
     session: &Session,
@@ -217,17 +217,25 @@ fn make_ready(
 {
     elided_sources_take_as_many_contexts();
     elide_source(alloc, session, tree, config)?;
+    check_lowering(alloc, tree, config)?;
     check_scopes(alloc, tree)?;
     enclose(alloc, tree)?;
     bind_names(alloc, tree)?;
     let given = resolve_names(alloc, session.left(), tree)?;
+    lower_assignments(
+        alloc,
+        config.import_export_assign_config,
+        given.unresolved,
+        tree,
+    )?;
     check_exports(alloc, given.free, tree)?;
     Ok(given.left)
 }
 
-/// What was given to a tree: the context of its free names, and how many contexts are left.
+/// What was given to a tree: the mark and the context of its free names, and how many contexts are left.
 #[derive(Clone, Copy)]
 struct Given {
+    unresolved: Mark,
     free: SyntaxContext,
     left: u32,
 }
@@ -236,6 +244,7 @@ struct Given {
 fn resolve_names(alloc: Global, left: u32, tree: &mut Module) -> Result<Given, NoMemory>
     requires { contexts tree.old + 2 ≤ left }
     ensures tree { OnOk result (tree.new ≡ resolved left (left - 1) (left - 2) tree.old) }
+    ensures unresolved { IfOk result (λ given. given.unresolved ≡ left) }
     ensures free { IfOk result (λ given. given.free ≡ left) }
     ensures left { IfOk result (λ given. given.left + (contexts tree.old + 2) ≡ left) }
 {
@@ -245,6 +254,7 @@ fn resolve_names(alloc: Global, left: u32, tree: &mut Module) -> Result<Given, N
     };
     match resolve(alloc, &mut session, tree, unresolved, top) {
         Ok(()) => Ok(Given {
+            unresolved,
             free: SyntaxContext::empty().apply_mark(unresolved),
             left: session.left(),
         }),

@@ -3,6 +3,7 @@ ghost use Rattle.std.specs.Prelude.{◌≡◌};
 ghost use Rattle.ts_to_js.specs.declared.error.TsError.TheVariants as error;
 
 use ecma_exports::ExportError;
+use ecma_lower::LowerError;
 use ecma_scope::ScopeError;
 use ecma_text::ReadError;
 use ecma_tree::{JsWord, NoMemory};
@@ -21,12 +22,21 @@ pub enum TsError {
     #[error("too deep at {at}")]
     TooDeep { at: u32 },
     /// The grammar reads no module there, and the place is the greatest one at which a terminal failed; or a node that begins there breaks a
-    /// context rule, or is of a form that has to be lowered and does not go with the types, and the place is the least of such a node.
+    /// context rule, or is of a form that is not taken yet and does not go with the types, and the place is the least of such a node.
     #[error("syntax error at {at}")]
     Syntax { at: u32 },
     /// The session has fewer marks left than the module needs (`ecma_scope::needs`).
     #[error("too few contexts are left")]
     Spent,
+    /// A second `export =` begins at this place (`ecma_lower::check_lowering`).
+    #[error("a second `export =` at {at}")]
+    ExportAssignTwice { at: u32 },
+    /// `import a = require("m")` begins at this place, the first, in what is to be a module of ECMAScript (`ecma_lower::check_lowering`).
+    #[error("`import a = require(..)` at {at} in a module of ECMAScript")]
+    ImportAssign { at: u32 },
+    /// `export =` begins at this place, the first, in what is to be a module of ECMAScript (`ecma_lower::check_lowering`).
+    #[error("`export =` at {at} in a module of ECMAScript")]
+    ExportAssign { at: u32 },
     /// This name is declared again where it may not be; it is the first such name in the text (`ecma_scope::check_scopes`).
     #[error("{name:?} is declared again")]
     Redeclared { name: JsWord },
@@ -59,6 +69,21 @@ impl From<ReadError> for TsError {
             ReadError::TooDeep { at } => TsError::TooDeep { at },
             ReadError::Syntax { at } => TsError::Syntax { at },
             ReadError::NoMemory => TsError::NoMemory,
+        }
+    }
+}
+
+impl From<LowerError> for TsError {
+    ghost use Rattle.ts_to_js.specs.Refusals.{refusal_of_lowering};
+
+    ghost from_gives = { λ reason result. result ≡ refusal_of_lowering reason };
+
+    fn from(reason: LowerError) -> TsError {
+        match reason {
+            LowerError::ExportAssignTwice { at } => TsError::ExportAssignTwice { at },
+            LowerError::ImportAssign { at } => TsError::ImportAssign { at },
+            LowerError::ExportAssign { at } => TsError::ExportAssign { at },
+            LowerError::NoMemory => TsError::NoMemory,
         }
     }
 }

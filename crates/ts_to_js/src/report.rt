@@ -55,7 +55,11 @@ pub(crate) fn write_fault<K: Sink>(sink: &mut K, refusal: &TsError) -> Result<()
 {
     let head = fault_head(refusal);
     match refusal {
-        TsError::TooDeep { at } | TsError::Syntax { at } => {
+        TsError::TooDeep { at }
+        | TsError::Syntax { at }
+        | TsError::ExportAssignTwice { at }
+        | TsError::ImportAssign { at }
+        | TsError::ExportAssign { at } => {
             let mut digits = itoa::Buffer::new();
             write_line(sink, head, digits.format(*at))
         }
@@ -77,6 +81,9 @@ fn fault_head(refusal: &TsError) -> &'static str
         TsError::TooDeep { .. } => "error: TooDeep at ",
         TsError::Syntax { .. } => "error: Syntax at ",
         TsError::Spent => "error: Spent",
+        TsError::ExportAssignTwice { .. } => "error: ExportAssignTwice at ",
+        TsError::ImportAssign { .. } => "error: ImportAssign at ",
+        TsError::ExportAssign { .. } => "error: ExportAssign at ",
         TsError::Redeclared { .. } => "error: Redeclared ",
         TsError::ExportUnbound { .. } => "error: ExportUnbound ",
         TsError::Captured { .. } => "error: Captured ",

@@ -1,4 +1,5 @@
 //! Runs of the whole program over devices in memory; conversions and refusals by topic stand in the modules beside.
+mod assignments;
 mod expressions;
 mod modules;
 mod names;
@@ -214,6 +215,14 @@ fn imports_and_exports_are_written(rt: HostRuntime) -> Result<(), Fail> {
     Ok(())
 }
 
+#[test]
+fn assignments_are_written_or_refused(rt: HostRuntime) -> Result<(), Fail> {
+    for row in &assignments::ASSIGNMENTS {
+        check(&rt, rt.alloc(), row)?;
+    }
+    Ok(())
+}
+
 /// What comes of a module that imports a type, by these words.
 fn with_words(
     alloc: Global,
@@ -251,6 +260,18 @@ fn words_come_in_any_order_and_once(rt: HostRuntime) -> Result<(), Fail> {
             BAD_WORD,
             "",
             "error: bad word --verbatim\n",
+        ),
+        (
+            ["--assign=classic", "--assign=esnext"],
+            BAD_WORD,
+            "",
+            "error: bad word --assign=esnext\n",
+        ),
+        (
+            ["--verbatim", "--assign="],
+            BAD_WORD,
+            "",
+            "error: bad word --assign=\n",
         ),
         (
             ["--no-empty-export", "-x"],
@@ -502,6 +523,10 @@ fn errors_say_why(rt: HostRuntime) -> Result<(), Fail> {
         (TsError::TooDeep { at: 511 }, "too deep at 511"),
         (TsError::Syntax { at: 12 }, "syntax error at 12"),
         (TsError::Spent, "too few contexts are left"),
+        (
+            TsError::ExportAssignTwice { at: 12 },
+            "a second `export =` at 12",
+        ),
         (TsError::NoMemory, "out of memory"),
     ];
     for (error, want) in rows {

@@ -4,18 +4,23 @@ use Rattle.ecma_pipeline.proofs.written_modules_do_what_their_sources_do.Goals a
 pub returns : goal.returns
 returns c = written_modules (record {
   enclosed_read = c.enclosed_trees_are_read.ensures;
-  enclosed_lowered = c.enclosed_trees_need_no_lowering.ensures;
+  enclosed_taken = c.enclosed_trees_are_taken.ensures;
+  enclosed_unrefused = c.enclosed_trees_are_refused_alike.ensures;
   enclosed_short = c.enclosing_keeps_names_short.ensures;
   enclosed_made = c.enclosing_makes_no_names.ensures;
   enclosed_contexts = c.enclosed_trees_scope_alike.ensures.contexts;
   enclosed_distinct = c.enclosed_trees_scope_alike.ensures.conflicts;
   enclosed_runs = c.enclosed_trees_run_alike.ensures;
-  bound_read = c.bound_trees_are_read.ensures;
   bound_made = c.binding_makes_no_names.ensures;
   bound_runs = c.bound_sources_run_alike.ensures;
   bound_interface = c.bound_sources_have_their_interface.ensures;
   contexts_made = c.contexts_make_no_names.ensures;
   ready = c.bound_sources_are_ready.ensures;
+  lowered_made = c.lowering_makes_free_names_alone.ensures;
+  declares = c.scopes_declare_what_runs_declare.ensures;
+  lowered_declares = c.lowered_trees_declare_alike.ensures;
+  lowered_runs = c.lowered_trees_run_alike.ensures;
+  lowered_interface = c.lowered_trees_have_their_interface.ensures;
   marked_before_or_after = c.marked_before_or_after.ensures;
   marked_ready = c.marked_trees_are_ready.ensures;
   marked_own = c.marked_trees_have_own_contexts.ensures;

@@ -174,10 +174,10 @@ f1();
     },
     Row {
         word: "",
-        src: r#"import { a } from "m"; let a; export = a;"#,
+        src: "let a; let a; enum E {}",
         status: REFUSED,
         out: "",
-        err: "error: Syntax at 30\n",
+        err: "error: Syntax at 14\n",
     },
     // an import beside a value of its name goes
     Row {
@@ -196,11 +196,11 @@ f1();
     },
     // words
     Row {
-        word: "--assign=classic",
+        word: "--assign=commonjs",
         src: "let x = 1;",
         status: BAD_WORD,
         out: "",
-        err: "error: bad word --assign=classic\n",
+        err: "error: bad word --assign=commonjs\n",
     },
     Row {
         word: "--verbatim=",

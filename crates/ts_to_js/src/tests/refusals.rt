@@ -1,19 +1,7 @@
 //! Modules that are refused: forms that are not taken, and what is no module.
 use super::Case;
 
-pub(super) const REFUSED: [Case; 22] = [
-    // import assignment
-    Case {
-        src: "f(); import a = b.c;",
-        want: r#"error: Syntax at 5
-"#,
-    },
-    // export assignment
-    Case {
-        src: "let x: T; export = x;",
-        want: r#"error: Syntax at 10
-"#,
-    },
+pub(super) const REFUSED: [Case; 20] = [
     // parameter property
     Case {
         src: "class A { constructor(private x: T) {} }",

@@ -15,15 +15,6 @@ invariant-template-loop-i l =
 abbrev pub decreases-fold : goal.decreases-fold
 decreases-fold l = 8 * size-Node l.node.now + 6
 
-abbrev pub decreases-member : goal.decreases-member
-decreases-member l = 8 * size-Node l.node.now + 5
-
-abbrev pub decreases-key : goal.decreases-key
-decreases-key l = 8 * size-Node l.node.now + 4
-
-abbrev pub decreases-plain : goal.decreases-plain
-decreases-plain l = 8 * size-Node l.node.now + 3
-
 abbrev pub decreases-template : goal.decreases-template
 decreases-template l = 8 * size-Node l.node.now + 3
 
@@ -41,6 +32,3 @@ decreases-item_at l = 8 * size-Node l.node.now + 1
 
 abbrev pub decreases-fold_at : goal.decreases-fold_at
 decreases-fold_at l = 8 * size-Node l.node.now
-
-abbrev pub decreases-key_at : goal.decreases-key_at
-decreases-key_at l = 8 * size-Node l.node.now

@@ -1,0 +1,9 @@
+pub mod Parts
+pub mod Valueless
+pub mod Going
+pub mod Patterns
+pub mod Roles
+pub mod Needs
+pub mod Frame
+pub mod Layers
+pub mod Ready

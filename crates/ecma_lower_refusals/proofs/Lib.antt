@@ -1,0 +1,4 @@
+pub mod Refused
+pub mod Bound
+pub mod Enclosed
+pub mod Contexts

@@ -1,0 +1,9 @@
+pub mod Still
+pub mod Walks
+pub mod Items
+pub mod Lists
+pub mod Lowering
+pub mod Declared
+pub mod Ids
+pub mod Stops
+pub mod Contexts

@@ -1,0 +1,15 @@
+pub mod Names
+pub mod Writes
+pub mod Modules
+pub mod Walks
+pub mod Making
+pub mod Sorts
+pub mod Clauses
+pub mod Fitting
+pub mod Strays
+pub mod Bare
+pub mod Refusals
+pub mod Taken
+pub mod Lowering
+pub mod Contexts
+pub mod Keeping

@@ -1,0 +1,4 @@
+pub mod Ones
+pub mod Fronted
+pub mod Staying
+pub mod Sorting
