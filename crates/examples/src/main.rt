@@ -19,7 +19,6 @@ fn show<R: Files + Print + AllocGlobal>(rt: &R, name: &str) -> io::Result<()> {
     let mut session = Session::new(u32::MAX);
     let options = Options {
         config: Config::default(),
-        program_ends: false,
     };
     match ts_to_js(rt.alloc(), &mut session, &source, &options) {
         Ok(text) => io::writer(rt).write_all(&text),

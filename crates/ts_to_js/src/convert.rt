@@ -55,8 +55,32 @@ pub fn ts_to_js(
     // With the text, two contexts are drawn, and one for each scope; else none. Nothing else of the session changes.
     ensures session { Leaves result src.now session.old session.new }
 {
+    converted(alloc, session, src, options, Behind::Goes)
+}
+
+/// Whether the program goes on behind a conversion, or ends: then the memory of the tree is left to the system, which takes all of it at once. Else the tree
+/// is let go of, node by node. It changes nothing in what is answered.
+#[derive(Clone, Copy)]
+pub(crate) enum Behind {
+    Goes,
+    Ends,
+}
+
+/// Converts the bytes of a module as [`ts_to_js`] does.
+pub(crate) fn converted(
+    alloc: Global,
+    session: &mut Session,
+    src: &[u8],
+    options: &Options,
+    behind: Behind,
+) -> Result<Vec<u8>, TsError>
+    ensures text { AnswersBy result (IsConverted options.now.config session.old.left src.now) }
+    ensures conversion { IfOk result (λ text. IsConversion options.now.config session.old.left src.now text.items) }
+    ensures valid { IsValid options.now.config session.old.left src.now → (IsOk result) ⊎ (result ≡ Err TsError.NoMemory) }
+    ensures session { Leaves result src.now session.old session.new }
+{
     converted_modules_do_what_their_sources_do();
-    convert_bytes(alloc, session, src, options)
+    convert_bytes(alloc, session, src, options, behind)
 }
 
 fn convert_bytes(
@@ -64,6 +88,7 @@ fn convert_bytes(
     session: &mut Session,
     src: &[u8],
     options: &Options,
+    behind: Behind,
 ) -> Result<Vec<u8>, TsError>
     ensures text { AnswersBy result (IsConverted options.now.config session.old.left src.now) }
     ensures session { Leaves result src.now session.old session.new }
@@ -73,7 +98,7 @@ fn convert_bytes(
     }
     match decoded(src) {
         None => Err(TsError::NotUtf8),
-        Some(text) => convert_text(alloc, session, text, options),
+        Some(text) => convert_text(alloc, session, text, options, behind),
     }
 }
 
@@ -93,6 +118,7 @@ fn convert_text(
     session: &mut Session,
     text: &str,
     options: &Options,
+    behind: Behind,
 ) -> Result<Vec<u8>, TsError>
     requires { length text.now ≤ LIMIT }
     ensures text { AnswersBy result (ComesOfReading options.now.config session.old.left (reads_as text.now typescript deepest)) }
@@ -100,7 +126,7 @@ fn convert_text(
 {
     trees_that_are_read_are_read();
     let tree = read_module(alloc, text)?;
-    convert_tree(alloc, session, tree, text, options)
+    convert_tree(alloc, session, tree, text, options, behind)
 }
 
 /// Converts the tree that was read of a text, if nothing refuses it.
@@ -110,6 +136,7 @@ fn convert_tree(
     tree: Module,
     text: &str,
     options: &Options,
+    behind: Behind,
 ) -> Result<Vec<u8>, TsError>
     requires short { length text.now ≤ LIMIT }
     requires read { reads_as text.now typescript deepest ≡ Ok tree }
@@ -118,7 +145,7 @@ fn convert_tree(
     ensures session { Leaves result text.now session.old session.new }
 {
     accept(session, &tree, text, &options.config)?;
-    convert_accepted(alloc, session, tree, options)
+    convert_accepted(alloc, session, tree, options, behind)
 }
 
 /// Whether each form of the tree of a text is taken, and contexts enough are left; else the first of these that fails.
@@ -163,6 +190,7 @@ fn convert_accepted(
     session: &mut Session,
     tree: Module,
     options: &Options,
+    behind: Behind,
 ) -> Result<Vec<u8>, TsError>
     requires source { IsRead tree }
     requires enough { needed tree ≤ session.old.left }
@@ -170,12 +198,16 @@ fn convert_accepted(
     ensures drawn { OnOk result (HasDrawnFor tree session.old session.new) }
     ensures kept { OnErr result (session.new ≡ session.old) }
 {
-    if options.program_ends {
-        let mut left = ManuallyDrop::new(tree);
-        return written(alloc, session, &mut left, &options.config);
+    match behind {
+        Behind::Ends => {
+            let mut left = ManuallyDrop::new(tree);
+            written(alloc, session, &mut left, &options.config)
+        }
+        Behind::Goes => {
+            let mut tree = tree;
+            written(alloc, session, &mut tree, &options.config)
+        }
     }
-    let mut tree = tree;
-    written(alloc, session, &mut tree, &options.config)
 }
 
 /// The text of what a tree becomes, if no name of it refuses it.

@@ -1,6 +1,6 @@
 //! The program over the standard input and output of its process.
+use crate::arguments::words;
 use crate::program::{NO_MEMORY, run};
-use crate::words::words;
 use devices::{StdSink, StdSource};
 use std::process::ExitCode;
 

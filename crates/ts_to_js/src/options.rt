@@ -12,9 +12,6 @@ use std::rc::RcStr;
 pub struct Options {
     /// What the module means, and which of its imports and exports are written.
     pub config: Config,
-    /// Whether the program ends after the conversion: then the memory of the tree is left to the system, which takes all of it at once. Else
-    /// the tree is let go of, node by node. It changes nothing in what is answered.
-    pub program_ends: bool,
 }
 
 fn is_known(word: &str) -> bool

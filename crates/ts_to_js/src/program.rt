@@ -5,7 +5,7 @@ ghost use Rattle.ts_to_js.specs.Answer.{Answers};
 ghost use Rattle.ts_to_js.specs.Running.{expected_of, IsRunOf, IsUnwritten, first_read, seen, written_status, reported_status, Refuses, NoRunIsSpent, Ran, IsRun};
 ghost use Rattle.ts_to_js.specs.Words.{bad_word, config_of};
 
-use crate::convert::{LIMIT, ts_to_js};
+use crate::convert::{Behind, LIMIT, converted};
 use crate::error::TsError;
 use crate::options::{Options, bad_word, config_of};
 use crate::report::{write_fault, write_line};
@@ -108,11 +108,8 @@ fn convert<O: Sink, E: Sink>(
         (seen E.taken E.faults E.calls err.old) (seen E.taken E.faults E.calls err.new) }
 {
     let mut session = Session::new(u32::MAX);
-    let options = Options {
-        config: *config,
-        program_ends: true,
-    };
-    let answer = ts_to_js(alloc, &mut session, src, &options);
+    let options = Options { config: *config };
+    let answer = converted(alloc, &mut session, src, &options, Behind::Ends);
     tell(answer, out, err)
 }
 

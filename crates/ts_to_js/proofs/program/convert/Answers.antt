@@ -7,6 +7,6 @@ use Rattle.ts_to_js.proofs.program.convert.Goals as goal
 
 pub returns-clause-run : goal.returns-clause-run
 returns-clause-run g c =
-    run_of c.args.config.now c.args.src.now c.ts_to_js-answer.result c.tell.result _ _ _ _
-    (subst (λ left. AnswersBy c.ts_to_js-answer.result (IsConverted c.args.config.now left c.args.src.now)) (ap (λ (session : SessionState). session.left) c.new-session.ensures) c.ts_to_js-answer.ensures.text)
+    run_of c.args.config.now c.args.src.now c.converted-answer.result c.tell.result _ _ _ _
+    (subst (λ left. AnswersBy c.converted-answer.result (IsConverted c.args.config.now left c.args.src.now)) (ap (λ (session : SessionState). session.left) c.new-session.ensures) c.converted-answer.ensures.text)
     c.tell.ensures.lacking c.tell.ensures.run

@@ -7,7 +7,6 @@ mod refusals;
 mod statements;
 mod texts;
 
-use super::*;
 use devices::VecSink;
 use ecma_config::Config;
 use ecma_print::print_module;
@@ -18,6 +17,7 @@ use std::env::{Env, FillError};
 use std::process::Abort;
 use std::rc::RcStr;
 use std::test::Fail;
+use ts_to_js::*;
 
 /// A run over devices in memory.
 #[derive(Drop)]
@@ -330,7 +330,6 @@ fn spent(alloc: Global, left: u32) -> bool {
     let mut session = ecma_tree::Session::new(left);
     let options = Options {
         config: Config::default(),
-        program_ends: false,
     };
     let answer = ts_to_js(alloc, &mut session, b"let x: number = f(1);", &options);
     matches!(answer, Err(TsError::Spent))
@@ -572,7 +571,7 @@ fn the_words_are_those_behind_the_name(rt: HostRuntime) -> Result<(), Fail> {
         b"a\xFFb".as_slice(),
         long.as_bytes(),
     ];
-    let words = words::words(&Arguments { all: &all }, rt.alloc())?;
+    let words = ts_to_js::words(&Arguments { all: &all }, rt.alloc())?;
     let want = ["--check", "", "\u{FFFD}", long.as_str()];
     assert_eq!(rt; words.len(), want.len());
     for (word, want) in words.iter().zip(want) {

@@ -6,8 +6,8 @@ use std::rc::RcStr;
 /// What is passed for a word that is no text: no word that is known.
 const NO_TEXT: &str = "\u{FFFD}";
 
-/// The words after the program's name, in their order.
-pub(crate) fn words(rt: &impl Env, alloc: Global) -> Result<Vec<RcStr>, AllocError> {
+/// The words after the program's name, in their order; a word that is no text is `\u{FFFD}`, which names nothing. Want of memory alone is an error.
+pub fn words(rt: &impl Env, alloc: Global) -> Result<Vec<RcStr>, AllocError> {
     let mut words = Vec::new(alloc);
     for index in 1..usize::MAX {
         match word(rt, alloc, index)? {

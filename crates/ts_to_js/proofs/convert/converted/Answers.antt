@@ -1,5 +1,5 @@
 use Rattle.ts_to_js.proofs.Conversions.{answered-conversion, answered-valid}
-use Rattle.ts_to_js.proofs.convert.ts_to_js.Goals as goal
+use Rattle.ts_to_js.proofs.convert.converted.Goals as goal
 
 pub returns-clause-conversion : goal.returns-clause-conversion
 returns-clause-conversion c =
