@@ -30,6 +30,3 @@ pub use shapes::{Count, Field, FieldShape, Shape, Sort, field_index, field_shape
 pub use sorts::belongs;
 pub use span::{DUMMY_SP, Span};
 pub use word::JsWord;
-
-#[cfg(test)]
-mod tests;

@@ -15,6 +15,3 @@ pub use script::{
     Action, Actions, Answer, Answers, FreeValue, FreeValues, ImportValue, ImportValues, Script,
 };
 pub use shown::{ErrorKind, Shown, Shows};
-
-#[cfg(test)]
-mod tests;

@@ -44,6 +44,3 @@ pub use sorted::{has_shape, has_sort};
 pub use spans::drop_spans;
 pub use symbol::verify_symbol;
 pub use values::{is_value, is_value_at, is_value_where};
-
-#[cfg(test)]
-mod tests;
