@@ -123,6 +123,7 @@ module _ (ctx : ExprCtx) (off : ctx.is_unresolved_ref_safe ≡ false) (x : Execu
     value_leaves n kind.SuperPropExpr (super ∷ key ∷ []) none taken = absurd (cc)
     value_leaves n kind.CallExpr (callee ∷ arguments ∷ types ∷ []) none taken = absurd (cc)
     value_leaves n kind.NewExpr (callee ∷ arguments ∷ types ∷ []) none taken = absurd (cc)
+    value_leaves n kind.TsExternalModuleRef (source ∷ []) none taken = absurd (cc)
     value_leaves n (kind.MetaPropExpr NewTarget) [] none taken = bind_leaves old (activation_leaves old scope) (λ a. given_leaves old a.1.new_target)
     value_leaves n (kind.OptChainExpr optional) (base ∷ []) none taken = absurd (cc)
     value_leaves n _ ns none taken = outside_leaves old

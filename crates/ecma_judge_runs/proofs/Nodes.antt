@@ -115,7 +115,8 @@ module _ (ctx : ExprCtx) (off : ctx.is_unresolved_ref_safe ≡ false) (x : Execu
   layer_quiet n kind.TsTypeParamDecl ns none taken = absurd (cc)
   layer_quiet n kind.TsTypeParamInstantiation ns none taken = absurd (cc)
   layer_quiet n kind.TsQualifiedName (left ∷ right ∷ []) none taken = absurd (cc)
-  layer_quiet n (kind.TsImportEqualsDecl is_export false) (name ∷ source ∷ []) none taken = absurd (cc)
+  layer_quiet n (kind.TsImportEqualsDecl false false) (name ∷ source ∷ []) none taken = absurd (cc)
+  layer_quiet n (kind.TsImportEqualsDecl true false) (name ∷ source ∷ []) none taken = absurd (cc)
   layer_quiet n k ns none taken = either_quiet (has_no_effect k (meanings ctx x ns)) (no_effect_quiet n) (role_quiet n k ns none taken)
 
   -- all nodes

@@ -144,6 +144,7 @@ module _ (ctx : ExprCtx) (objects : Bool) (x : ExecutionContext) (known : object
   value_gives n (kind.ArrowExpr is_async is_generator) ns shape is = any_gives (λ v. record { truth = tt; number = tt; text = tt; type = tt })
   value_gives n kind.SuperPropExpr ns shape is = any_gives (λ v. record { truth = tt; number = tt; text = tt; type = tt })
   value_gives n kind.CallExpr ns shape is = any_gives (λ v. record { truth = tt; number = tt; text = tt; type = tt })
+  value_gives n kind.TsExternalModuleRef ns shape is = any_gives (λ v. record { truth = tt; number = tt; text = tt; type = tt })
   value_gives n (kind.MetaPropExpr meta) ns shape is = any_gives (λ v. record { truth = tt; number = tt; text = tt; type = tt })
   value_gives n (kind.OptChainExpr optional) ns shape is = any_gives (λ v. record { truth = tt; number = tt; text = tt; type = tt })
   value_gives n _ ns shape is = outside_gives
