@@ -1,5 +1,5 @@
 -- The length of a text literal and of an array literal is a Number.
-use Rattle.std.proofs.Common.{◌≡◌, refl, sym, ap, subst, ℕ, suc, ◌++◌, List, [], ◌∷◌, map, length, Option, Some, None, true, bytes_eq, codes, slice_get}
+use Rattle.std.proofs.Common.{◌≡◌, refl, sym, ap, subst, ℕ, suc, List, [], ◌∷◌, map, length, Option, Some, None, true, bytes_eq, codes, slice_get}
 use Rattle.std.proofs.lemmas.Slice.Eq.{bytes_eq-Decides}
 use Rattle.ecma_number.specs.declared.types.JsType.TheVariants as js_type
 use Rattle.ecma_number.specs.declared.value.Value.TheVariants.{Known}
@@ -18,6 +18,7 @@ use Rattle.ecma_runs.specs.Members.{got}
 use Rattle.ecma_runs.specs.Objects.{no_ancestry, property_above, element_entries, new_array}
 use Rattle.ecma_runs.specs.Expressions.{member_of}
 use Rattle.ecma_runs.proofs.Layer.{meaning_out}
+use Rattle.ecma_judge_runs.proofs.Fronts.{last_at}
 use Rattle.ecma_judge_runs.specs.Known.{HasType}
 use Rattle.ecma_judge_runs.proofs.Giving.{Gave, GivesBy, bind_gives, then_gives, give_gives, outside_gives, when_gives}
 
@@ -76,10 +77,6 @@ array_of es = record { entries = element_entries 0 es; prototype = None; callabl
 -- an array stands there
 abbrev IsArrayAt : ℕ → State → Type 0
 IsArrayAt place s = (es : List (Option Value)) × (slice_get s.objects place ≡ Some (array_of es))
-
-last_at : (objects : List Object) (object : Object) → slice_get (objects ++ object ∷ []) (length objects) ≡ Some object
-last_at [] object = refl
-last_at (o ∷ objects) object = last_at objects object
 
 abbrev IsNumber : Value → Type 0
 IsNumber v = HasType (Known js_type.Num) v

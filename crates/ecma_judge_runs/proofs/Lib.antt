@@ -1,11 +1,18 @@
+pub mod Both
+pub mod Passing
 pub mod Fronts
 pub mod Leaving
+pub mod Keeping
 pub mod Records
 pub mod Objects
 pub mod Reading
+pub mod Data
 pub mod Meanings
+pub mod Callees
+pub mod IdleCalls
 pub mod Expressions
 pub mod Classes
+pub mod Made
 pub mod Nodes
 pub mod Giving
 pub mod Values
@@ -23,5 +30,4 @@ pub mod ValuedNodes
 pub mod Idle
 pub mod Purities
 pub mod Steady
-pub mod Callees
 pub mod Laws

@@ -29,7 +29,7 @@ use Rattle.ecma_runs.specs.Expressions.{identifier}
 use Rattle.ecma_runs.proofs.Names.{same_id-equal}
 use Rattle.ecma_judge_runs.specs.Known.{HasTruth, HasNumber, HasText, HasType, declares_no_global}
 use Rattle.ecma_judge_runs.proofs.Giving.{GivesBy, bind_gives, any_gives, give_gives, outside_gives, when_gives, either_gives, given_gives}
-use Rattle.ecma_judge_runs.proofs.Meanings.{both_true}
+use Rattle.ecma_judge_runs.proofs.Both.{both_true}
 use Rattle.ecma_judge_runs.proofs.Values.{number_is_true, text_has_number, number_is, text_is, some_same}
 
 module _ (ctx : ExprCtx) where

@@ -45,10 +45,10 @@ module _ (old : State) where
   calling_at_leaves : (place : ℕ) → Leaves old (calling_at place)
   calling_at_leaves place = record { at = λ s g. (calling_of_leaves (callable_in (slice_get s.objects place))).at s g }
 
-  extent_at_leaves : (place : ℕ) → Leaves old (extent_at place)
+  pub extent_at_leaves : (place : ℕ) → Leaves old (extent_at place)
   extent_at_leaves place = record { at = λ s g. (g, tt) }
 
-  own_property_at_leaves : (place : ℕ) (key : List ℕ) → Leaves old (own_property_at place key)
+  pub own_property_at_leaves : (place : ℕ) (key : List ℕ) → Leaves old (own_property_at place key)
   own_property_at_leaves place key = record { at = λ s g. (g, tt) }
 
   found_from_leaves : (place : ℕ) (key : List ℕ) → Leaves old (found_from place key)
@@ -56,7 +56,7 @@ module _ (old : State) where
 
   -- changes of what is new
 
-  change_entries_leaves : (place : ℕ) (change : List Entry → List Entry) → NewObject place → Leaves old (change_entries place change)
+  pub change_entries_leaves : (place : ℕ) (change : List Entry → List Entry) → NewObject place → Leaves old (change_entries place change)
   change_entries_leaves place change new = record {
     at = λ s g. (
       record {

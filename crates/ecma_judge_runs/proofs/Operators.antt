@@ -41,7 +41,7 @@ use Rattle.ecma_runs.specs.Functions.{read_typed, delete}
 use Rattle.ecma_runs.specs.Expressions.{is_in, binary_rest, unary}
 use Rattle.ecma_judge_runs.specs.Known.{HasTruth, HasNumber, HasType, IsAsJudged, is_told_of}
 use Rattle.ecma_judge_runs.proofs.Giving.{GivesBy, bind_gives, then_gives, any_gives, weaker_gives, give_gives, throw_gives, outside_gives, when_gives, mapped_gives, mapped_by, both_give}
-use Rattle.ecma_judge_runs.proofs.Meanings.{both_true}
+use Rattle.ecma_judge_runs.proofs.Both.{both_true}
 use Rattle.ecma_judge_runs.proofs.Differences.{pure_number, minus_truth, difference_fits, quotient_fits, numbers_by, and_fits_bits, or_fits_bits}
 use Rattle.ecma_judge_runs.proofs.Literals.{Fits}
 use Rattle.ecma_judge_runs.proofs.Values.{not_truth, pure_truth, or_left, or_right, and_left, and_right, not_has_number, not_has_text, void_has_text, common_left, common_right, some_same}

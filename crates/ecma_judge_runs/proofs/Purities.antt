@@ -22,7 +22,7 @@ use Rattle.ecma_judge.specs.PureCallees.{pure_callee_by}
 use Rattle.ecma_judge.specs.Texts.{known_bool_text, is_text_name, followed_by, void_text}
 use Rattle.ecma_judge.specs.Truths.{is_false_name, or_truth, and_truth}
 use Rattle.ecma_judge.proofs.Judging.{effects-out}
-use Rattle.ecma_judge_runs.proofs.Meanings.{both_true}
+use Rattle.ecma_judge_runs.proofs.Both.{both_true}
 
 pub none_of : (b : Bool) → purity_of b ≡ Pure → b ≡ false
 none_of true is = absurd (cc)

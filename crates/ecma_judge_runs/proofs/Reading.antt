@@ -1,19 +1,24 @@
 -- What is read of names, and operators on values, leave all as it was.
-use Rattle.std.proofs.Common.{bytes_eq, codes}
+use Rattle.std.proofs.Common.{ℕ, List, bytes_eq, codes}
 use Rattle.ecma_kind.specs.declared.operators.BinaryOp.{BinaryOp}
 use Rattle.ecma_kind.specs.declared.operators.BinaryOp.TheVariants as binary
-use Rattle.ecma_runs.specs.Values.{Value, Own, Host, Error}
+use Rattle.ecma_runs.specs.Values.{Value, Number, Own, Host, Error, length_of}
 use Rattle.ecma_runs.specs.State.{State}
 use Rattle.ecma_runs.specs.Environment.{Reference, ToVariable, ToFree, ToMember, ToSuper, ToImportMeta, ToMetaMember, ToValue}
 use Rattle.ecma_runs.specs.Meaning.{ExecutionContext}
 use Rattle.ecma_runs.specs.Operators.{key_from, binary_value}
+use Rattle.ecma_runs.specs.Members.{text_member}
 use Rattle.ecma_runs.specs.Functions.{read, read_typed}
 use Rattle.ecma_runs.specs.Expressions.{is_in, applied}
-use Rattle.ecma_judge_runs.proofs.Leaving.{Leaves, bind_leaves, give_leaves, throw_leaves, outside_leaves, unless_leaves, given_leaves}
+use Rattle.ecma_judge_runs.proofs.Leaving.{Leaves, bind_leaves, give_leaves, throw_leaves, outside_leaves, when_leaves, unless_leaves, given_leaves}
 use Rattle.ecma_judge_runs.proofs.Records.{Readable, read_variable_leaves, read_free_leaves, read_free_typed_leaves}
 use Rattle.ecma_judge_runs.proofs.Objects.{has_member_leaves, instance_of_leaves}
 
 module _ (old : State) where
+  -- a member of a text
+  pub text_member_leaves : (text key : List ℕ) → Leaves old (text_member text key)
+  text_member_leaves text key = when_leaves old (bytes_eq key (codes "length")) (bind_leaves old (given_leaves old (length_of text)) (λ n. give_leaves old (Number n))) (outside_leaves old)
+
   module _ (x : ExecutionContext) where
     pub read_leaves : (r : Reference) → Readable r → Leaves old (read x r)
     read_leaves (ToVariable place id) h = read_variable_leaves old x.provided.imports place id

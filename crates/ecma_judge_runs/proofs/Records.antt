@@ -8,9 +8,9 @@ use Rattle.ecma_runs.specs.Values.{Value, Own}
 use Rattle.ecma_runs.specs.State.{Content, Empty, Holds, Imported, Id, Entered, Binding, Activation, State}
 use Rattle.ecma_runs.specs.Run.{Run, give, outside, when}
 use Rattle.ecma_runs.specs.Host.{import_value, taken_if, own_at, handled, taken, free_value, fixed_value, free_or, read_free, free_or_undefined, read_free_typed}
-use Rattle.ecma_runs.specs.Environment.{new_environment, variable, with_value, set_variable, Reference, ToVariable, ToFree, ToMember, ToSuper, ToImportMeta, ToMetaMember, ToValue, is_among, resolved, content_value, value_in, read_variable, set_all, activation_at, activation_or, activation, this}
+use Rattle.ecma_runs.specs.Environment.{ids_of, new_environment, variable, with_value, set_variable, Reference, ToVariable, ToFree, ToMember, ToSuper, ToImportMeta, ToMetaMember, ToValue, is_among, resolved, content_value, value_in, read_variable, set_all, activation_at, activation_or, activation, this}
 use Rattle.ecma_judge_runs.proofs.Fronts.{front_push, front_changed, front_length}
-use Rattle.ecma_judge_runs.proofs.Leaving.{LeavesBy, Leaves, bind_leaves, give_by, give_leaves, throw_leaves, outside_leaves, when_leaves, given_or_leaves}
+use Rattle.ecma_judge_runs.proofs.Leaving.{LeavesBy, Leaves, bind_leaves, weaker, give_by, give_leaves, throw_leaves, outside_leaves, when_leaves, given_or_leaves}
 
 -- what may be read: no member, and not the name `arguments`, whose first read makes its object
 abbrev pub Readable : Reference → Type 0
@@ -27,8 +27,8 @@ module _ (old : State) where
   abbrev pub NewRecord : Entered → Type 0
   NewRecord entered = length old.environments ≤ entered.place
 
-  pub new_environment_by : (bindings : List Binding) (a : Option Activation) → LeavesBy old NewRecord (new_environment bindings a)
-  new_environment_by bindings a = record {
+  pub new_environment_as : (bindings : List Binding) (a : Option Activation) → LeavesBy old (λ entered. NewRecord entered × (entered.ids ≡ ids_of bindings)) (new_environment bindings a)
+  new_environment_as bindings a = record {
     at = λ s g. (
       record {
         environments = front_push old.environments s.environments (record { bindings = bindings; activation = a }) g.environments;
@@ -37,11 +37,14 @@ module _ (old : State) where
         answers = g.answers;
         events = g.events;
       },
-      front_length old.environments s.environments g.environments,
+      (front_length old.environments s.environments g.environments, refl),
     );
   }
 
-  set_variable_leaves : (place : ℕ) (id : Id) (v : Value) → length old.environments ≤ place → Leaves old (set_variable place id v)
+  pub new_environment_by : (bindings : List Binding) (a : Option Activation) → LeavesBy old NewRecord (new_environment bindings a)
+  new_environment_by bindings a = weaker old (λ entered h. h.0) (new_environment_as bindings a)
+
+  pub set_variable_leaves : (place : ℕ) (id : Id) (v : Value) → length old.environments ≤ place → Leaves old (set_variable place id v)
   set_variable_leaves place id v new = record {
     at = λ s g. (
       record {

@@ -1,6 +1,5 @@
 -- What tells a truth or a Number with the purity of what is pure, or knows a text, leaves all as it was.
 use Rattle.std.proofs.Common.{◌≡◌, refl, sym, ap, ◌∙◌, subst, ◌⊎◌, inl, inr, ◌++◌, ℕ, List, [], ◌∷◌, map, Some, Bool, true, false, not, ◌&&◌, ◌==◌, bytes_eq, codes, if◌then◌else◌, slice_get}
-use Rattle.std.specs.List.{list_all}
 use Rattle.std.specs.Option.{option_map_or}
 use Rattle.ecma_number.specs.Arithmetic.{difference_of, quotient_of}
 use Rattle.ecma_number.specs.Bits.{bitwise}
@@ -40,18 +39,20 @@ use Rattle.ecma_runs.specs.Operators.{total, number_from, unary_value}
 use Rattle.ecma_runs.specs.Expressions.{binary_rest, all_elements}
 use Rattle.ecma_runs.proofs.Layer.{meaning-roll}
 use Rattle.std.specs.Prelude.{bit_and, bit_or}
-use Rattle.ecma_judge_runs.specs.Taken.{is_taken, is_taken_by}
+use Rattle.ecma_judge_runs.specs.Called.{Assumed, AppliesFunctions}
+use Rattle.ecma_judge_runs.specs.Taken.{Taken, all_whole, is_taken_by, taken, is_taken}
 use Rattle.ecma_judge_runs.specs.Known.{HasTruth, HasNumber, HasText, HasType, IsAsJudged, declares_no_global}
 use Rattle.ecma_judge_runs.proofs.Leaving.{Follows, LeavesBy, Leaves, bind_by, bind_leaves, give_leaves, outside_leaves, given_leaves}
 use Rattle.ecma_judge_runs.proofs.Giving.{Gave, GivesBy, bind_gives, then_gives, any_gives, weaker_gives, give_gives, outside_gives}
 use Rattle.ecma_judge_runs.proofs.Literals.{Fits, apart_from}
-use Rattle.ecma_judge_runs.proofs.Meanings.{both_true}
+use Rattle.ecma_judge_runs.proofs.Both.{both_true}
 use Rattle.ecma_judge_runs.proofs.Objects.{new_array_leaves}
 use Rattle.ecma_judge_runs.proofs.Reading.{applied_leaves}
 use Rattle.ecma_judge_runs.proofs.Differences.{pure_number, difference_fits, quotient_fits, numbers_by, and_fits_bits, or_fits_bits}
 use Rattle.ecma_judge_runs.proofs.Values.{not_truth, pure_truth, not_has_number, array_has_number, or_left, or_right, and_left, and_right, common_left, common_right}
 use Rattle.ecma_judge_runs.proofs.Purities.{none_of, is_pure_of, both_pure, or_pure, and_pure, unsafe_none, Readable, truth_readable, number_readable, text_readable, undefined_readable, bang_pure, bang_text_pure, void_pure, minus_pure, infinity_none, followed_known}
-use Rattle.ecma_judge_runs.proofs.Nodes.{claim, taken-roll, effects-roll}
+use Rattle.ecma_judge_runs.proofs.Meanings.{Apart, taken-roll}
+use Rattle.ecma_judge_runs.proofs.Nodes.{claim, effects-roll}
 use Rattle.ecma_judge_runs.proofs.ValuedNodes.{valued}
 use Rattle.ecma_judge_runs.proofs.Idle.{idle_valued}
 
@@ -70,7 +71,7 @@ leaves_giving old {Q = Q} {m = m} h g = record { at = λ s still. follows_gave o
 
 -- ---- each node
 
-module _ (ctx : ExprCtx) (x : ExecutionContext) where
+module _ (ctx : ExprCtx) (sure : Assumed) (x : ExecutionContext) where
   -- it leaves all as it was, and gives such a value
   pub record Told (P : Value → Type 0) (m : Run Value) : Type 0 where
     pub leaves : (old : State) → Leaves old m
@@ -80,10 +81,10 @@ module _ (ctx : ExprCtx) (x : ExecutionContext) where
   AsTruth j v = HasTruth j.truth.1 v × HasType j.type v
 
   pub record Steady (n : Node) : Type 0 where
-    pub truth : is_taken ctx x.known.declared n ≡ true → (judged ctx n).truth.0 ≡ Pure → Told (AsTruth (judged ctx n)) ((meaning n).value x)
-    pub number : is_taken ctx x.known.declared n ≡ true → (judged ctx n).number.0 ≡ Pure → Told (HasNumber (judged ctx n).number.1) ((meaning n).value x)
-    pub text : is_taken ctx x.known.declared n ≡ true → (t : List ℕ) → (judged ctx n).text ≡ Known t → (old : State) → Leaves old ((meaning n).value x) × Leaves old ((meaning n).elements x)
-    pub element : is_taken ctx x.known.declared n ≡ true → (t : List ℕ) → (judged ctx n).element ≡ Known t → (old : State) → Leaves old ((meaning n).elements x)
+    pub truth : is_taken ctx x.known.declared sure n ≡ true → (judged ctx n).truth.0 ≡ Pure → Told (AsTruth (judged ctx n)) ((meaning n).value x)
+    pub number : is_taken ctx x.known.declared sure n ≡ true → (judged ctx n).number.0 ≡ Pure → Told (HasNumber (judged ctx n).number.1) ((meaning n).value x)
+    pub text : is_taken ctx x.known.declared sure n ≡ true → (t : List ℕ) → (judged ctx n).text ≡ Known t → (old : State) → Leaves old ((meaning n).value x) × Leaves old ((meaning n).elements x)
+    pub element : is_taken ctx x.known.declared sure n ≡ true → (t : List ℕ) → (judged ctx n).element ≡ Known t → (old : State) → Leaves old ((meaning n).elements x)
 
   abbrev SteadyNode : Type 0
   SteadyNode = (n : Node) × Steady n
@@ -97,8 +98,8 @@ module _ (ctx : ExprCtx) (x : ExecutionContext) where
   abbrev judgements : List SteadyNode → List Judged
   judgements ns = map (judged ctx) (nodes ns)
 
-  abbrev takens : List SteadyNode → List Bool
-  takens ns = map (is_taken ctx x.known.declared) (nodes ns)
+  abbrev takens : List SteadyNode → List Taken
+  takens ns = map (taken ctx x.known.declared sure) (nodes ns)
 
   abbrev effects_here : Node → Kind → List SteadyNode → Bool
   effects_here n k ns = not (pure_callee_by ctx k n) && effects_by ctx k n (judgements ns)
@@ -166,7 +167,7 @@ module _ (ctx : ExprCtx) (x : ExecutionContext) where
         }
     and_rest v true is h (inl known) hr = absurd (apart_from (truth_of v) is (subst (λ z. HasTruth z v) known h.0))
 
-  binary_truth : (op : BinaryOp) (n : Node) (l r : SteadyNode) → (is_taken ctx x.known.declared l.0 ≡ true) × (is_taken ctx x.known.declared r.0 ≡ true)
+  binary_truth : (op : BinaryOp) (n : Node) (l r : SteadyNode) → (is_taken ctx x.known.declared sure l.0 ≡ true) × (is_taken ctx x.known.declared sure r.0 ≡ true)
       → IfCalm n (kind.BinExpr op) (l ∷ r ∷ []) → (truth_by ctx (own_here n (kind.BinExpr op) (l ∷ r ∷ [])) (kind.BinExpr op) n (judged ctx l.0 ∷ judged ctx r.0 ∷ [])).0 ≡ Pure
       → Told (TruthHere n (kind.BinExpr op) (l ∷ r ∷ [])) ((meant n (kind.BinExpr op) (l ∷ r ∷ [])).value x)
   unfolding truth_by type_by
@@ -224,7 +225,7 @@ module _ (ctx : ExprCtx) (x : ExecutionContext) where
       }
   binary_truth op n l r t calm is = calm_truth n (kind.BinExpr op) (l ∷ r ∷ []) (calm (none_of (effects_here n (kind.BinExpr op) (l ∷ r ∷ [])) is))
 
-  unary_truth : (op : UnaryOp) (n : Node) (e : SteadyNode) → is_taken ctx x.known.declared e.0 ≡ true
+  unary_truth : (op : UnaryOp) (n : Node) (e : SteadyNode) → is_taken ctx x.known.declared sure e.0 ≡ true
       → IfCalm n (kind.UnaryExpr op) (e ∷ []) → (truth_by ctx (own_here n (kind.UnaryExpr op) (e ∷ [])) (kind.UnaryExpr op) n (judged ctx e.0 ∷ [])).0 ≡ Pure
       → Told (TruthHere n (kind.UnaryExpr op) (e ∷ [])) ((meant n (kind.UnaryExpr op) (e ∷ [])).value x)
   unfolding truth_by type_by
@@ -235,18 +236,18 @@ module _ (ctx : ExprCtx) (x : ExecutionContext) where
       }
   unary_truth op n e t calm is = calm_truth n (kind.UnaryExpr op) (e ∷ []) (calm (none_of (effects_here n (kind.UnaryExpr op) (e ∷ [])) is))
 
-  layer_truth : (n : Node) (k : Kind) (ns : List SteadyNode) → is_taken_by ctx x.known.declared k (takens ns) ≡ true → IfCalm n k ns
+  layer_truth : (n : Node) (k : Kind) (ns : List SteadyNode) → is_taken_by ctx x.known.declared sure k (takens ns) ≡ true → IfCalm n k ns
       → (truth_by ctx (own_here n k ns) k n (judgements ns)).0 ≡ Pure → Told (TruthHere n k ns) ((meant n k ns).value x)
   unfolding truth_by type_by effects_by access_effects_by part_effects_by pure_callee_by
   layer_truth n (kind.Ident name ctxt optional) ns t calm is =
       calm_truth n (kind.Ident name ctxt optional) ns (calm (name_effects n name ctxt optional ns
       (truth_readable (ctxt == ctx.unresolved_ctxt) name (own_here n (kind.Ident name ctxt optional) ns) (ctxt == ctx.unresolved_ctxt && is_false_name name) refl is)))
   layer_truth n kind.ParenExpr (e ∷ []) t calm is =
-      let h = e.1.truth (both_true (is_taken ctx x.known.declared e.0) true t).0 is in record { leaves = h.leaves; gives = weaker_gives (λ v g. (g.0, tt)) h.gives }
-  layer_truth n (kind.UnaryExpr op) (e ∷ []) t calm is = unary_truth op n e (both_true (is_taken ctx x.known.declared e.0) true t).0 calm is
+      let h = e.1.truth (both_true (is_taken ctx x.known.declared sure e.0) true t).0 is in record { leaves = h.leaves; gives = weaker_gives (λ v g. (g.0, tt)) h.gives }
+  layer_truth n (kind.UnaryExpr op) (e ∷ []) t calm is = unary_truth op n e (both_true (is_taken ctx x.known.declared sure e.0) true t).0 calm is
   layer_truth n (kind.BinExpr op) (l ∷ r ∷ []) t calm is =
-      let a = both_true (is_taken ctx x.known.declared l.0) (is_taken ctx x.known.declared r.0 && true) t in
-      binary_truth op n l r (a.0, (both_true (is_taken ctx x.known.declared r.0) true a.1).0) calm is
+      let a = both_true (is_taken ctx x.known.declared sure l.0) (is_taken ctx x.known.declared sure r.0 && true) t in
+      binary_truth op n l r (a.0, (both_true (is_taken ctx x.known.declared sure r.0) true a.1).0) calm is
   layer_truth n kind.ParenExpr ns t calm is = outside_told _
   layer_truth n (kind.UnaryExpr op) ns t calm is = outside_told _
   layer_truth n (kind.BinExpr op) ns t calm is = outside_told _
@@ -265,7 +266,7 @@ module _ (ctx : ExprCtx) (x : ExecutionContext) where
   array_leaves : (old : State) (elements : Meaning) → Leaves old (elements.elements x) → Leaves old (elements.elements x >>= λ es. new_array es >>= λ o. give (Own o))
   array_leaves old elements h = bind_leaves old h (λ es. bind_leaves old (new_array_leaves old es) (λ o. give_leaves old (Own o)))
 
-  array_told : (n : Node) (e : SteadyNode) → is_taken ctx x.known.declared e.0 ≡ true → IfCalm n kind.ArrayLit (e ∷ []) → (text : KnownOr (List ℕ)) → (judged ctx e.0).text ≡ text
+  array_told : (n : Node) (e : SteadyNode) → is_taken ctx x.known.declared sure e.0 ≡ true → IfCalm n kind.ArrayLit (e ∷ []) → (text : KnownOr (List ℕ)) → (judged ctx e.0).text ≡ text
       → (array_number (own_here n kind.ArrayLit (e ∷ [])) text).0 ≡ Pure
       → Told (λ v. HasNumber (array_number (own_here n kind.ArrayLit (e ∷ [])) text).1 v) ((meant n kind.ArrayLit (e ∷ [])).value x)
   array_told n e t calm (Known text) known is = record {
@@ -274,7 +275,7 @@ module _ (ctx : ExprCtx) (x : ExecutionContext) where
   }
   array_told n e t calm Unknown known is = record { leaves = (calm (none_of (effects_here n kind.ArrayLit (e ∷ [])) is)).leaves; gives = any_gives (λ v. tt) }
 
-  unary_number : (op : UnaryOp) (n : Node) (e : SteadyNode) → (out-Node n).children ≡ e.0 ∷ [] → is_taken ctx x.known.declared e.0 ≡ true
+  unary_number : (op : UnaryOp) (n : Node) (e : SteadyNode) → (out-Node n).children ≡ e.0 ∷ [] → is_taken ctx x.known.declared sure e.0 ≡ true
       → IfCalm n (kind.UnaryExpr op) (e ∷ []) → (number_by ctx (own_here n (kind.UnaryExpr op) (e ∷ [])) (kind.UnaryExpr op) n (judged ctx e.0 ∷ [])).0 ≡ Pure
       → Told (NumberHere n (kind.UnaryExpr op) (e ∷ [])) ((meant n (kind.UnaryExpr op) (e ∷ [])).value x)
   unfolding number_by effects_by pure_callee_by
@@ -290,7 +291,7 @@ module _ (ctx : ExprCtx) (x : ExecutionContext) where
   unary_number operator.Void n e shape t calm is = calm_number n (kind.UnaryExpr operator.Void) (e ∷ []) (calm (none_of (effects_here n (kind.UnaryExpr operator.Void) (e ∷ [])) is))
   unary_number op n e shape t calm is = absurd (cc)
 
-  layer_number : (n : Node) (k : Kind) (ns : List SteadyNode) → (out-Node n).children ≡ nodes ns → is_taken_by ctx x.known.declared k (takens ns) ≡ true → IfCalm n k ns
+  layer_number : (n : Node) (k : Kind) (ns : List SteadyNode) → (out-Node n).children ≡ nodes ns → is_taken_by ctx x.known.declared sure k (takens ns) ≡ true → IfCalm n k ns
       → (number_by ctx (own_here n k ns) k n (judgements ns)).0 ≡ Pure → Told (NumberHere n k ns) ((meant n k ns).value x)
   unfolding number_by effects_by pure_callee_by
   layer_number n (kind.Ident name ctxt optional) ns shape t calm is =
@@ -302,9 +303,9 @@ module _ (ctx : ExprCtx) (x : ExecutionContext) where
   layer_number n (kind.Str value raw) ns shape t calm is = calm_number n (kind.Str value raw) ns (calm refl)
   layer_number n (kind.BigInt value raw) ns shape t calm is = calm_number n (kind.BigInt value raw) ns (calm refl)
   layer_number n (kind.Regex exp flags) ns shape t calm is = calm_number n (kind.Regex exp flags) ns (calm refl)
-  layer_number n kind.ArrayLit (e ∷ []) shape t calm is = array_told n e (both_true (is_taken ctx x.known.declared e.0) true t).0 calm (judged ctx e.0).text refl is
+  layer_number n kind.ArrayLit (e ∷ []) shape t calm is = array_told n e (both_true (is_taken ctx x.known.declared sure e.0) true t).0 calm (judged ctx e.0).text refl is
   layer_number n kind.ArrayLit ns shape t calm is = outside_told _
-  layer_number n (kind.UnaryExpr op) (e ∷ []) shape t calm is = unary_number op n e shape (both_true (is_taken ctx x.known.declared e.0) true t).0 calm is
+  layer_number n (kind.UnaryExpr op) (e ∷ []) shape t calm is = unary_number op n e shape (both_true (is_taken ctx x.known.declared sure e.0) true t).0 calm is
   layer_number n (kind.UnaryExpr op) ns shape t calm is = outside_told _
   layer_number n k ns shape t calm is = absurd (cc)
 
@@ -319,43 +320,43 @@ module _ (ctx : ExprCtx) (x : ExecutionContext) where
   as_element : (old : State) (m : Run Value) → Leaves old m → Leaves old (m >>= λ v. give (Some v ∷ []))
   as_element old m h = bind_leaves old h (λ v. give_leaves old (Some v ∷ []))
 
-  unary_text : (op : UnaryOp) (n : Node) (e : SteadyNode) → is_taken ctx x.known.declared e.0 ≡ true → IfCalm n (kind.UnaryExpr op) (e ∷ []) → (t : List ℕ)
+  unary_text : (op : UnaryOp) (n : Node) (e : SteadyNode) → is_taken ctx x.known.declared sure e.0 ≡ true → IfCalm n (kind.UnaryExpr op) (e ∷ []) → (t : List ℕ)
       → text_by ctx (own_here n (kind.UnaryExpr op) (e ∷ [])) (kind.UnaryExpr op) (judged ctx e.0 ∷ []) ≡ Known t → TextHere n (kind.UnaryExpr op) (e ∷ [])
   unfolding text_by
-  unary_text operator.Bang n e taken calm t is old =
-      let h = (e.1.truth taken (bang_text_pure (judged ctx e.0).truth.0 (judged ctx e.0).truth.1 t is)).leaves old in
+  unary_text operator.Bang n e whole calm t is old =
+      let h = (e.1.truth whole (bang_text_pure (judged ctx e.0).truth.0 (judged ctx e.0).truth.1 t is)).leaves old in
       let value = bind_leaves old h (λ u. given_leaves old (unary_value operator.Bang u)) in
       (value, as_element old _ value)
-  unary_text operator.Void n e taken calm t is old =
+  unary_text operator.Void n e whole calm t is old =
       let own = own_here n (kind.UnaryExpr operator.Void) (e ∷ []) in
       calm_text n (kind.UnaryExpr operator.Void) (e ∷ []) (calm (none_of (effects_here n (kind.UnaryExpr operator.Void) (e ∷ [])) (void_pure own t is))) old
-  unary_text op n e taken calm t is old = absurd (cc)
+  unary_text op n e whole calm t is old = absurd (cc)
 
-  list_leaves : (old : State) (front : List ℕ) (ns : List SteadyNode) → list_all (λ b. b) (takens ns) ≡ true → (t : List ℕ) → joined_behind front (judgements ns) ≡ Known t → Leaves old (all_elements (meanings ns) x)
-  list_leaves old front [] taken t is = give_leaves old []
-  list_leaves old front (n ∷ ns) taken t is =
-      let p = both_true (is_taken ctx x.known.declared n.0) (list_all (λ b. b) (takens ns)) taken in
+  list_leaves : (old : State) (front : List ℕ) (ns : List SteadyNode) → all_whole (takens ns) ≡ true → (t : List ℕ) → joined_behind front (judgements ns) ≡ Known t → Leaves old (all_elements (meanings ns) x)
+  list_leaves old front [] whole t is = give_leaves old []
+  list_leaves old front (n ∷ ns) whole t is =
+      let p = both_true (is_taken ctx x.known.declared sure n.0) (all_whole (takens ns)) whole in
       let f = followed_known (followed_by (Known front) (judged ctx n.0).element) (joined_behind (44 ∷ []) (judgements ns)) t is in
       let g = followed_known (Known front) (judged ctx n.0).element f.0.0 f.0.1 in
       bind_leaves old (n.1.element p.0 g.1.0 g.1.1 old) (λ vs. bind_leaves old (list_leaves old (44 ∷ []) ns p.1 f.1.0 f.1.1) (λ ws. give_leaves old (vs ++ ws)))
 
-  layer_text : (n : Node) (k : Kind) (ns : List SteadyNode) → is_taken_by ctx x.known.declared k (takens ns) ≡ true → IfCalm n k ns → (t : List ℕ)
+  layer_text : (n : Node) (k : Kind) (ns : List SteadyNode) → is_taken_by ctx x.known.declared sure k (takens ns) ≡ true → IfCalm n k ns → (t : List ℕ)
       → text_by ctx (own_here n k ns) k (judgements ns) ≡ Known t → TextHere n k ns
   unfolding text_by effects_by pure_callee_by
-  layer_text n (kind.Str value raw) ns taken calm t is old = calm_text n (kind.Str value raw) ns (calm refl) old
-  layer_text n (kind.Number value raw) ns taken calm t is old = calm_text n (kind.Number value raw) ns (calm refl) old
-  layer_text n (kind.Bool value) ns taken calm t is old = calm_text n (kind.Bool value) ns (calm refl) old
-  layer_text n kind.Null ns taken calm t is old = calm_text n kind.Null ns (calm refl) old
-  layer_text n (kind.Ident name ctxt optional) ns taken calm t is old =
+  layer_text n (kind.Str value raw) ns whole calm t is old = calm_text n (kind.Str value raw) ns (calm refl) old
+  layer_text n (kind.Number value raw) ns whole calm t is old = calm_text n (kind.Number value raw) ns (calm refl) old
+  layer_text n (kind.Bool value) ns whole calm t is old = calm_text n (kind.Bool value) ns (calm refl) old
+  layer_text n kind.Null ns whole calm t is old = calm_text n kind.Null ns (calm refl) old
+  layer_text n (kind.Ident name ctxt optional) ns whole calm t is old =
       calm_text n (kind.Ident name ctxt optional) ns (calm (name_effects n name ctxt optional ns
       (text_readable (ctxt == ctx.unresolved_ctxt) name t (own_here n (kind.Ident name ctxt optional) ns) (ctxt == ctx.unresolved_ctxt && is_text_name name) refl is))) old
-  layer_text n (kind.UnaryExpr op) (e ∷ []) taken calm t is old = unary_text op n e (both_true (is_taken ctx x.known.declared e.0) true taken).0 calm t is old
-  layer_text n (kind.UnaryExpr op) ns taken calm t is old = (outside_leaves old, as_element old outside (outside_leaves old))
-  layer_text n kind.ArrayLit (e ∷ []) taken calm t is old =
-      let value = array_leaves old (meaning e.0) (e.1.text (both_true (is_taken ctx x.known.declared e.0) true taken).0 t is old).1 in (value, as_element old _ value)
-  layer_text n kind.ArrayLit ns taken calm t is old = (outside_leaves old, as_element old outside (outside_leaves old))
-  layer_text n kind.List ns taken calm t is old = (outside_leaves old, list_leaves old [] ns taken t is)
-  layer_text n k ns taken calm t is old = absurd (cc)
+  layer_text n (kind.UnaryExpr op) (e ∷ []) whole calm t is old = unary_text op n e (both_true (is_taken ctx x.known.declared sure e.0) true whole).0 calm t is old
+  layer_text n (kind.UnaryExpr op) ns whole calm t is old = (outside_leaves old, as_element old outside (outside_leaves old))
+  layer_text n kind.ArrayLit (e ∷ []) whole calm t is old =
+      let value = array_leaves old (meaning e.0) (e.1.text (both_true (is_taken ctx x.known.declared sure e.0) true whole).0 t is old).1 in (value, as_element old _ value)
+  layer_text n kind.ArrayLit ns whole calm t is old = (outside_leaves old, as_element old outside (outside_leaves old))
+  layer_text n kind.List ns whole calm t is old = (outside_leaves old, list_leaves old [] ns whole t is)
+  layer_text n k ns whole calm t is old = absurd (cc)
 
   -- ---- elements of arrays
 
@@ -375,50 +376,51 @@ module _ (ctx : ExprCtx) (x : ExecutionContext) where
   nothing_leaves n (kind.UnaryExpr op) ns calm is old = nothing_unary op n ns calm is old
   nothing_leaves n k ns calm is old = absurd (cc)
 
-  layer_element : (n : Node) (k : Kind) (ns : List SteadyNode) → is_taken_by ctx x.known.declared k (takens ns) ≡ true → IfCalm n k ns → (text : KnownOr (List ℕ)) → text ≡ text_by ctx (own_here n k ns) k (judgements ns) → (t : List ℕ)
+  layer_element : (n : Node) (k : Kind) (ns : List SteadyNode) → is_taken_by ctx x.known.declared sure k (takens ns) ≡ true → IfCalm n k ns → (text : KnownOr (List ℕ)) → text ≡ text_by ctx (own_here n k ns) k (judgements ns) → (t : List ℕ)
       → (b : Bool) → is_nothing_by ctx (own_here n k ns) k ≡ b → (if b then Known [] else text) ≡ Known t → (old : State) → Leaves old ((meant n k ns).elements x)
-  layer_element n k ns taken calm text same t true e is old = nothing_leaves n k ns calm e old
-  layer_element n k ns taken calm text same t false e is old = (layer_text n k ns taken calm t (sym same ∙ is) old).1
+  layer_element n k ns whole calm text same t true e is old = nothing_leaves n k ns calm e old
+  layer_element n k ns whole calm text same t false e is old = (layer_text n k ns whole calm t (sym same ∙ is) old).1
 
-module _ (ctx : ExprCtx) (off : ctx.is_unresolved_ref_safe ≡ false) (x : ExecutionContext) (apart : declares_no_global ctx x.scope ≡ true) where
-  module _ (parts : Node-F Node) (ns : List (SteadyNode ctx x)) (is : nodes ctx x ns ≡ parts.children) where
+module _ (ctx : ExprCtx) (sure : Assumed) (off : ctx.is_unresolved_ref_safe ≡ false) (x : ExecutionContext) (apart : declares_no_global ctx x.scope ≡ true) (clear : Apart ctx sure x.scope)
+    (applies : sure.calls ≡ true → AppliesFunctions x) where
+  module _ (parts : Node-F Node) (ns : List (SteadyNode ctx sure x)) (is : nodes ctx sure x ns ≡ parts.children) where
     abbrev here : Node
     here = roll-Node parts
 
     abbrev own : Purity
-    own = own_here ctx x here parts.kind ns
+    own = own_here ctx sure x here parts.kind ns
 
-    same_meaning : meaning here ≡ meant ctx x here parts.kind ns
+    same_meaning : meaning here ≡ meant ctx sure x here parts.kind ns
     same_meaning = meaning-roll parts ∙ ap (λ l. meaning_by here parts.kind (map meaning l)) (sym is)
 
-    same_effects : (judged ctx here).effects ≡ effects_here ctx x here parts.kind ns
+    same_effects : (judged ctx here).effects ≡ effects_here ctx sure x here parts.kind ns
     same_effects = effects-roll ctx parts ∙ ap (λ l. not (pure_callee_by ctx parts.kind here) && effects_by ctx parts.kind here (map (judged ctx) l)) (sym is)
 
     -- what the tables say, by the kind and the children
-    by_parts : {A : Type 0} (f : Purity → Kind → List Judged → A) → f (purity_of (judged ctx here).effects) (out-Node here).kind (kids_of ctx here) ≡ f own parts.kind (judgements ctx x ns)
+    by_parts : {A : Type 0} (f : Purity → Kind → List Judged → A) → f (purity_of (judged ctx here).effects) (out-Node here).kind (kids_of ctx here) ≡ f own parts.kind (judgements ctx sure x ns)
     by_parts f =
         ap (λ (z : Node-F Node). f (purity_of (judged ctx here).effects) z.kind (map (judged ctx) z.children)) (out-roll-Node parts)
-        ∙ ap (λ l. f (purity_of (judged ctx here).effects) parts.kind (map (judged ctx) l)) (sym is) ∙ ap (λ b. f (purity_of b) parts.kind (judgements ctx x ns)) same_effects
+        ∙ ap (λ l. f (purity_of (judged ctx here).effects) parts.kind (map (judged ctx) l)) (sym is) ∙ ap (λ b. f (purity_of b) parts.kind (judgements ctx sure x ns)) same_effects
 
-    same_truth : (judged ctx here).truth ≡ truth_by ctx own parts.kind here (judgements ctx x ns)
+    same_truth : (judged ctx here).truth ≡ truth_by ctx own parts.kind here (judgements ctx sure x ns)
     same_truth = truth-out ctx here ∙ by_parts (λ p k kids. truth_by ctx p k here kids)
 
-    same_number : (judged ctx here).number ≡ number_by ctx own parts.kind here (judgements ctx x ns)
+    same_number : (judged ctx here).number ≡ number_by ctx own parts.kind here (judgements ctx sure x ns)
     same_number = number-out ctx here ∙ by_parts (λ p k kids. number_by ctx p k here kids)
 
-    same_text : (judged ctx here).text ≡ text_by ctx own parts.kind (judgements ctx x ns)
+    same_text : (judged ctx here).text ≡ text_by ctx own parts.kind (judgements ctx sure x ns)
     same_text = text-out ctx here ∙ by_parts (λ p k kids. text_by ctx p k kids)
 
-    same_type : (judged ctx here).type ≡ type_by ctx parts.kind here (judgements ctx x ns)
+    same_type : (judged ctx here).type ≡ type_by ctx parts.kind here (judgements ctx sure x ns)
     same_type = type-out ctx here ∙ by_parts (λ p k kids. type_by ctx k here kids)
 
     same_element : (judged ctx here).element ≡ element_by ctx own parts.kind (judged ctx here).text
     same_element = element-out ctx here ∙ by_parts (λ p k kids. element_by ctx p k (judged ctx here).text)
 
-    taken_here : is_taken ctx x.known.declared here ≡ true → is_taken_by ctx x.known.declared parts.kind (takens ctx x ns) ≡ true
-    taken_here taken = subst (λ l. is_taken_by ctx x.known.declared parts.kind (map (is_taken ctx x.known.declared) l) ≡ true) (sym is) (sym (taken-roll ctx x parts) ∙ taken)
+    taken_here : is_taken ctx x.known.declared sure here ≡ true → is_taken_by ctx x.known.declared sure parts.kind (takens ctx sure x ns) ≡ true
+    taken_here whole = subst (λ l. is_taken_by ctx x.known.declared sure parts.kind (map (taken ctx x.known.declared sure) l) ≡ true) (sym is) (sym (ap (λ (t : Taken). t.whole) (taken-roll ctx sure x parts)) ∙ whole)
 
-    fits_here : (v : Value) → IsAsJudged (judged ctx here) v → Fits ctx own here parts.kind (judgements ctx x ns) v
+    fits_here : (v : Value) → IsAsJudged (judged ctx here) v → Fits ctx own here parts.kind (judgements ctx sure x ns) v
     fits_here v h = record {
       truth = subst (λ (t : Purity × KnownOr Bool). HasTruth t.1 v) same_truth h.truth;
       number = subst (λ (t : Purity × KnownOr JsNumber). HasNumber t.1 v) same_number h.number;
@@ -426,37 +428,37 @@ module _ (ctx : ExprCtx) (off : ctx.is_unresolved_ref_safe ≡ false) (x : Execu
       type = subst (λ t. HasType t v) same_type h.type;
     }
 
-    calm_here : is_taken ctx x.known.declared here ≡ true → IfCalm ctx x here parts.kind ns
-    calm_here taken none =
+    calm_here : is_taken ctx x.known.declared sure here ≡ true → IfCalm ctx sure x here parts.kind ns
+    calm_here whole none =
         let e = same_effects ∙ none in
-        let c = (claim ctx off x here).quiet e taken in
+        let c = (claim ctx sure off x applies here).quiet e whole in
         record {
-          leaves = λ old. subst (λ m. Leaves old (m.value x)) same_meaning (c.value old x.scope);
-          elements = λ old. subst (λ m. Leaves old (m.elements x)) same_meaning (c.elements old x.scope);
-          gives = subst (λ m. GivesBy (Fits ctx own here parts.kind (judgements ctx x ns)) (m.value x)) same_meaning
-              (weaker_gives fits_here ((valued ctx false x (λ is. absurd (cc)) apart here).value (idle_valued ctx false x here taken e)));
+          leaves = λ old. subst (λ m. Leaves old (m.value x)) same_meaning (c.value old x.scope clear);
+          elements = λ old. subst (λ m. Leaves old (m.elements x)) same_meaning (c.elements old x.scope clear);
+          gives = subst (λ m. GivesBy (Fits ctx own here parts.kind (judgements ctx sure x ns)) (m.value x)) same_meaning
+              (weaker_gives fits_here ((valued ctx false x (λ is. absurd (cc)) apart here).value (idle_valued ctx sure false x here whole e)));
         }
 
-    told_here : (P Q : Value → Type 0) → ((v : Value) → P v → Q v) → Told ctx x P ((meant ctx x here parts.kind ns).value x) → Told ctx x Q ((meaning here).value x)
+    told_here : (P Q : Value → Type 0) → ((v : Value) → P v → Q v) → Told ctx sure x P ((meant ctx sure x here parts.kind ns).value x) → Told ctx sure x Q ((meaning here).value x)
     told_here P Q f h = record {
       leaves = λ old. subst (λ m. Leaves old (m.value x)) (sym same_meaning) (h.leaves old);
       gives = weaker_gives f (subst (λ m. GivesBy P (m.value x)) (sym same_meaning) h.gives);
     }
 
-    steady_roll : Steady ctx x here
+    steady_roll : Steady ctx sure x here
     steady_roll = record {
-      truth = λ taken pure. told_here (TruthHere ctx x here parts.kind ns) (AsTruth ctx x (judged ctx here))
+      truth = λ whole pure. told_here (TruthHere ctx sure x here parts.kind ns) (AsTruth ctx sure x (judged ctx here))
           (λ v h. (subst (λ (t : Purity × KnownOr Bool). HasTruth t.1 v) (sym same_truth) h.0, subst (λ t. HasType t v) (sym same_type) h.1))
-          (layer_truth ctx x here parts.kind ns (taken_here taken) (calm_here taken) (sym (ap (λ (t : Purity × KnownOr Bool). t.0) same_truth) ∙ pure));
-      number = λ taken pure. told_here (NumberHere ctx x here parts.kind ns) (HasNumber (judged ctx here).number.1)
+          (layer_truth ctx sure x here parts.kind ns (taken_here whole) (calm_here whole) (sym (ap (λ (t : Purity × KnownOr Bool). t.0) same_truth) ∙ pure));
+      number = λ whole pure. told_here (NumberHere ctx sure x here parts.kind ns) (HasNumber (judged ctx here).number.1)
           (λ v h. subst (λ (t : Purity × KnownOr JsNumber). HasNumber t.1 v) (sym same_number) h)
-          (layer_number ctx x here parts.kind ns (ap (λ (z : Node-F Node). z.children) (out-roll-Node parts) ∙ sym is) (taken_here taken) (calm_here taken) (sym (ap (λ (t : Purity × KnownOr JsNumber). t.0) same_number) ∙ pure));
-      text = λ taken t known old.
-          let h = layer_text ctx x here parts.kind ns (taken_here taken) (calm_here taken) t (sym same_text ∙ known) old in
+          (layer_number ctx sure x here parts.kind ns (ap (λ (z : Node-F Node). z.children) (out-roll-Node parts) ∙ sym is) (taken_here whole) (calm_here whole) (sym (ap (λ (t : Purity × KnownOr JsNumber). t.0) same_number) ∙ pure));
+      text = λ whole t known old.
+          let h = layer_text ctx sure x here parts.kind ns (taken_here whole) (calm_here whole) t (sym same_text ∙ known) old in
           (subst (λ m. Leaves old (m.value x)) (sym same_meaning) h.0, subst (λ m. Leaves old (m.elements x)) (sym same_meaning) h.1);
-      element = λ taken t known old. subst (λ m. Leaves old (m.elements x)) (sym same_meaning)
-          (layer_element ctx x here parts.kind ns (taken_here taken) (calm_here taken) (judged ctx here).text same_text t (is_nothing_by ctx own parts.kind) refl (sym same_element ∙ known) old);
+      element = λ whole t known old. subst (λ m. Leaves old (m.elements x)) (sym same_meaning)
+          (layer_element ctx sure x here parts.kind ns (taken_here whole) (calm_here whole) (judged ctx here).text same_text t (is_nothing_by ctx own parts.kind) refl (sym same_element ∙ known) old);
     }
 
-  pub steady : (n : Node) → Steady ctx x n
-  steady = ind-Node (Steady ctx x) (λ parts y is. steady_roll parts y.children (ap (λ z. z.children) is))
+  pub steady : (n : Node) → Steady ctx sure x n
+  steady = ind-Node (Steady ctx sure x) (λ parts y is. steady_roll parts y.children (ap (λ z. z.children) is))

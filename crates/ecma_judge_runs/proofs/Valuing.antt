@@ -1,6 +1,5 @@
 -- The values that expressions give are as they are judged: a line for each kind.
-use Rattle.std.proofs.Common.{◌≡◌, refl, sym, ap, subst, ℕ, suc, arith, ◌-◌, length, List, [], ◌∷◌, map, None, Bool, true, false, cond, ◌&&◌, ◌==◌, bytes_eq, codes, if◌then◌else◌, slice_get}
-use Rattle.std.specs.Option.{option_map_or}
+use Rattle.std.proofs.Common.{◌≡◌, refl, sym, ap, subst, ℕ, suc, arith, ◌-◌, length, List, [], ◌∷◌, map, None, Bool, true, false, cond, ◌&&◌, ◌==◌, bytes_eq, codes, if◌then◌else◌}
 use Rattle.ecma_number.specs.declared.types.JsType.TheVariants as js_type
 use Rattle.ecma_number.specs.declared.types.Purity.{Purity}
 use Rattle.ecma_number.specs.declared.value.Value.TheVariants.{Known, Unknown}
@@ -28,7 +27,8 @@ use Rattle.ecma_runs.specs.Evaluation.{meaning}
 use Rattle.ecma_runs.specs.Expressions.{sequence, interleaved, member_reference, value_of}
 use Rattle.ecma_judge_runs.specs.Known.{HasTruth, HasNumber, HasType, IsAsJudged, ConstructsObjects, Marks, marks, is_valued, is_valued_by, last_or, declares_no_global}
 use Rattle.ecma_judge_runs.proofs.Giving.{GivesBy, CameFrom, then_gives, any_gives, weaker_gives, give_gives, outside_gives, when_gives}
-use Rattle.ecma_judge_runs.proofs.Meanings.{both_true}
+use Rattle.ecma_judge_runs.proofs.Passing.{passes_first, passes_second}
+use Rattle.ecma_judge_runs.proofs.Both.{both_true}
 use Rattle.ecma_judge_runs.proofs.Values.{bool_has_number, array_has_number, own_has_text, bool_has_text, common_left, common_right, some_same}
 use Rattle.ecma_judge_runs.proofs.Literals.{Fits, text_fits, number_fits, name_by}
 use Rattle.ecma_judge_runs.proofs.Operators.{filled_text, infinity_number, unary_gives, binary_gives}
@@ -68,12 +68,6 @@ module _ (ctx : ExprCtx) (objects : Bool) (x : ExecutionContext) where
       then_gives ((meaning m.0).value x) (λ _. subst (λ i. GivesBy (IsAsJudged (kid (judgements (m ∷ p ∷ ns)) i)) (sequence (meanings (p ∷ ns)) x)) (sym (last_step (length (nodes ns)))) (sequence_gives (p ∷ ns) is))
 
 module _ (ctx : ExprCtx) (objects : Bool) (x : ExecutionContext) (known : objects ≡ true → ConstructsObjects x) (apart : declares_no_global ctx x.scope ≡ true) (own : Purity) where
-  passes_first : (test : Node → Bool) (n : Node) (a : Node) (cs : List Node) → (out-Node n).children ≡ a ∷ cs → passes_at test 0 n ≡ true → test a ≡ true
-  passes_first test n a cs is h = subst (λ (z : List Node). option_map_or test (slice_get z 0) false ≡ true) is h
-
-  passes_second : (test : Node → Bool) (n : Node) (a b : Node) (cs : List Node) → (out-Node n).children ≡ a ∷ b ∷ cs → passes_at test 1 n ≡ true → test b ≡ true
-  passes_second test n a b cs is h = subst (λ (z : List Node). option_map_or test (slice_get z 1) false ≡ true) is h
-
   -- a member that is told to be a length is a Number
   length_by : (n object key : Node) → (out-Node n).children ≡ object ∷ key ∷ [] → (b : Bool) → (passes_at (has_kind has_length) 0 n && passes_at (has_kind is_length) 1 n) ≡ b
       → GivesBy (HasType (if b then Known js_type.Num else Unknown)) (member_reference (meaning object) (meaning key) x >>= λ r. read x r)

@@ -1,5 +1,6 @@
 pub mod Still
+pub mod Idle
+pub mod Called
 pub mod Taken
 pub mod Known
-pub mod Called
 pub mod Laws

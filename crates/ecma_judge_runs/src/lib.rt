@@ -3,10 +3,12 @@
 //! Each function carries one law, and does nothing. The laws are stated in `specs/Laws.antt`.
 #![tactic(auto)]
 
-ghost use Rattle.ecma_judge_runs.specs.Laws.{CallsOfPureCalleesAreStill, ClassesWithoutEffectsAreStill, PureCalleesAreStill, PureCallsAreStill, WhatHasAKnownTextIsStill, WhatHasNoEffectsIsStill, WhatIsAPureNumberIsStill, WhatIsKnownIsSo, WhatIsPureIsStill};
+ghost use Rattle.ecma_judge_runs.specs.Laws.{CallsOfPureCalleesAreStill, ClassesWithoutEffectsAreStill, ContextsApplyFunctions, PureCalleesAreStill, PureCallsAreStill, WhatHasAKnownTextIsStill, WhatHasNoEffectsIsStill, WhatIsAPureNumberIsStill, WhatIsKnownIsSo, WhatIsPureIsStill};
 
 /// An expression that is said to have no effects changes nothing when it is evaluated: no variable, no object, and nothing that the host sees; however it comes
-/// out. It may make objects and environment records. Asked is that its names are told, and that it has no member, call or optional chain outside of functions.
+/// out. It may make objects and environment records. Asked is that its names are told. Of a member of `Math` and a call of `Date` it is so where these names are
+/// known to be global, of a call of a function expression that does nothing where calls are known to be those of the program, and of a member of an object literal or
+/// a class where what is listed in these has the sort of a property or a member.
 pub fn what_has_no_effects_is_still()
     ensures { WhatHasNoEffectsIsStill }
 {}
@@ -17,8 +19,8 @@ pub fn classes_without_effects_are_still()
 {}
 
 /// So it is with a call, on values that are there, of a callee that is said to be pure: `Date`, a member of `Math` by its name, a method of a text literal that
-/// only reads it. A function expression that does nothing is left out. Asked is that no scope around declares a name with the context of what is not resolved or
-/// the empty one.
+/// only reads it, or a function expression that does nothing. Asked is that no scope around declares a name with the context of what is not resolved or the empty
+/// one, and of a function expression that calls are those of the program and that it has the parts of one.
 pub fn calls_of_pure_callees_are_still()
     ensures { CallsOfPureCalleesAreStill }
 {}
@@ -45,7 +47,7 @@ pub fn what_has_a_known_text_is_still()
     ensures { WhatHasAKnownTextIsStill }
 {}
 
-/// Nor does such a callee itself, as the members `Math.max` and `"a".trim` that are read.
+/// Nor does such a callee itself change anything, as the members `Math.max` and `"a".trim` that are read.
 pub fn pure_callees_are_still()
     ensures { PureCalleesAreStill }
 {}
@@ -54,4 +56,9 @@ pub fn pure_callees_are_still()
 /// arguments, and what that on calls asks of the scopes around.
 pub fn pure_calls_are_still()
     ensures { PureCallsAreStill }
+{}
+
+/// Calls are those of the program in the contexts in which the code of a module runs, and that of the functions that it calls.
+pub fn contexts_apply_functions()
+    ensures { ContextsApplyFunctions }
 {}
