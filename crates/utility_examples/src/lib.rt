@@ -4,6 +4,8 @@
 #[cfg(test)]
 mod builders;
 #[cfg(test)]
+mod functions;
+#[cfg(test)]
 mod judging;
 #[cfg(test)]
 mod utilities;

@@ -1,0 +1,7 @@
+pub mod Calls
+pub mod Drawing
+pub mod Places
+pub mod Injecting
+pub mod Constructors
+pub mod This
+pub mod Laws
