@@ -4,6 +4,8 @@
 #[cfg(test)]
 mod eliding;
 #[cfg(test)]
+mod enums;
+#[cfg(test)]
 mod exporting;
 #[cfg(test)]
 mod lowering;

@@ -1,0 +1,173 @@
+//! Where a node stands, as far as enums and reads of their members ask.
+ghost use Rattle.std.specs.Prelude.{◌≡◌};
+ghost use Rattle.ecma_lower_enums.specs.Places.{at_child, child_place, exported_place, inside_place, is_item, is_left, is_raw, is_several, operand_place, pattern_place, place_in, place_of, statements};
+
+use ecma_tree::{Kind, Sort, UnaryOp, belongs, field_shapes};
+
+/// Where a node stands.
+#[derive(Clone, Copy, Debug)]
+pub enum Place {
+    /// An item of a list of statements, of a module or script or of another list; `exported` behind `export`.
+    Item { at_top: bool, exported: bool },
+    /// A member of an enum that is written; where `skips` says so, members whose values are known are not.
+    Member { skips: bool },
+    /// The body of a namespace.
+    Block,
+    /// An expression that is read.
+    Read,
+    /// A property of an object: a name here is a shorthand.
+    Property,
+    /// What is assigned to, or deleted.
+    Target,
+    /// The body of a statement: a declaration here is left as it is.
+    Body,
+    /// All else: a name here is a key, a label or a declared name, and stays.
+    Other,
+    /// Where nothing is done.
+    Raw,
+}
+
+pub(crate) fn is_raw(place: Place) -> bool
+    ensures { result ≡ is_raw place }
+{
+    matches!(place, Place::Raw)
+}
+
+pub(crate) fn is_item(place: Place) -> bool
+    ensures { result ≡ is_item place }
+{
+    matches!(place, Place::Item { .. })
+}
+
+/// Whether a node may become several here.
+pub(crate) fn is_several(place: Place) -> bool
+    ensures { result ≡ is_several place }
+{
+    matches!(place, Place::Item { .. } | Place::Member { .. })
+}
+
+/// Whether a node of this kind is left here as it is, with all that it holds.
+pub(crate) fn is_left(place: Place, kind: &Kind) -> bool
+    ensures { result ≡ is_left place kind.now }
+{
+    match place {
+        Place::Raw => true,
+        Place::Body => belongs(Sort::Decl, kind),
+        _ => false,
+    }
+}
+
+fn pattern_place(place: Place) -> Place
+    ensures { result ≡ pattern_place place }
+{
+    match place {
+        Place::Target => Place::Target,
+        _ => Place::Other,
+    }
+}
+
+/// Where a child of this sort stands.
+fn place_of(place: Place, sort: Sort) -> Place
+    ensures { result ≡ place_of place sort }
+{
+    match sort {
+        Sort::Expr
+        | Sort::Callee
+        | Sort::ExprOrSpread
+        | Sort::VarDeclOrExpr
+        | Sort::BlockStmtOrExpr => Place::Read,
+        Sort::AssignTarget | Sort::ForHead => Place::Target,
+        Sort::PropOrSpread => Place::Property,
+        Sort::Pat | Sort::ObjectPatProp => pattern_place(place),
+        Sort::Stmt => Place::Body,
+        _ => Place::Other,
+    }
+}
+
+fn child_place(place: Place, kind: &Kind, index: usize) -> Place
+    ensures { result ≡ child_place place kind.now index }
+{
+    match field_shapes(kind).get(index) {
+        Some(child) => place_of(place, child.shape.sort),
+        None => Place::Other,
+    }
+}
+
+/// An item of a list of statements, where enums are written.
+fn statements(writes: bool, at_top: bool) -> Place
+    ensures { result ≡ statements writes at_top }
+{
+    if writes {
+        Place::Item {
+            at_top,
+            exported: false,
+        }
+    } else {
+        Place::Other
+    }
+}
+
+pub(crate) fn exported_place(place: Place) -> Place
+    ensures { result ≡ exported_place place }
+{
+    match place {
+        Place::Item { at_top, .. } => Place::Item {
+            at_top,
+            exported: true,
+        },
+        _ => Place::Other,
+    }
+}
+
+fn inside_place(place: Place) -> Place
+    ensures { result ≡ inside_place place }
+{
+    match place {
+        Place::Target => Place::Target,
+        _ => Place::Read,
+    }
+}
+
+fn operand_place(op: UnaryOp) -> Place
+    ensures { result ≡ operand_place op }
+{
+    match op {
+        UnaryOp::Delete => Place::Target,
+        _ => Place::Read,
+    }
+}
+
+fn at_child(wanted: usize, index: usize, place: Place, other: Place) -> Place
+    ensures { result ≡ at_child wanted index place other }
+{
+    if index == wanted { place } else { other }
+}
+
+/// Where the child at an index of a node of this kind stands.
+#[tactic(auto, unfolding(crate::specs::Places::place_in))]
+pub(crate) fn place_in(writes: bool, place: Place, kind: &Kind, index: usize) -> Place
+    ensures { result ≡ place_in writes place kind.now index }
+{
+    match kind {
+        Kind::Module { .. } | Kind::Script { .. } => statements(writes, true),
+        Kind::BlockStmt | Kind::TsModuleBlock => statements(writes, false),
+        Kind::SwitchCase => at_child(1, index, statements(writes, false), Place::Read),
+        Kind::ExportDecl => at_child(0, index, exported_place(place), Place::Other),
+        Kind::TsModuleDecl { .. } | Kind::TsNamespaceDecl { .. } => {
+            at_child(1, index, Place::Block, Place::Other)
+        }
+        Kind::ParenExpr => inside_place(place),
+        Kind::UpdateExpr { .. } => Place::Target,
+        Kind::UnaryExpr { op } => operand_place(*op),
+        Kind::SeqExpr => Place::Read,
+        Kind::ArrowExpr { .. } => at_child(1, index, Place::Read, Place::Other),
+        Kind::SetterProp => at_child(1, index, Place::Raw, Place::Other),
+        Kind::TsTypeAssertion
+        | Kind::TsConstAssertion
+        | Kind::TsNonNullExpr
+        | Kind::TsAsExpr
+        | Kind::TsInstantiation
+        | Kind::TsSatisfiesExpr => at_child(0, index, place, Place::Other),
+        _ => child_place(place, kind, index),
+    }
+}
