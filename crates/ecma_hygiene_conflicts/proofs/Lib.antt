@@ -5,3 +5,4 @@ pub mod Staying
 pub mod Written
 pub mod Scope
 pub mod Walk
+pub mod Plain

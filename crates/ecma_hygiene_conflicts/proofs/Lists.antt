@@ -1,6 +1,6 @@
 -- Declarations with final texts clash only where they clash with the texts before.
 use Rattle.std.proofs.Common.{◌≡◌, ◌⊎◌, inl, inr, ℕ, Bool, true, false, ◌&&◌, ◌||◌, not, cond, filter, List, [], ◌∷◌, ◌++◌, map, Option, refl, sym, ap, ◌∙◌, bytes_eq}
-use Rattle.std.specs.List.{All, list_any}
+use Rattle.std.specs.List.{All, Contains, list_any}
 use Rattle.std.proofs.lemmas.List.Elements.{All-append, All-cons, All-head, All-nil, All-tail}
 use Rattle.std.proofs.lemmas.List.Folds.{list_any-append}
 use Rattle.std.proofs.lemmas.Slice.Eq.{bytes_eq-Decides}
@@ -10,7 +10,7 @@ use Rattle.ecma_scope.specs.declared.form.Form.TheVariants as form
 use Rattle.ecma_scope.specs.declared.role.Role.{Role}
 use Rattle.ecma_scope.specs.Conflicts.{clashes, clashing, conflict, has_parameters, is_catch, is_lexical, is_parameter, mark, marked, may_be_merged, may_merge, may_not_meet, merges}
 use Rattle.ecma_scope.specs.Declarations.{is_hoisted, is_own, is_stated}
-use Rattle.ecma_hygiene.specs.Ids.{Id, has_context, is_function_body}
+use Rattle.ecma_hygiene.specs.Ids.{Id, is_function_body}
 use Rattle.ecma_hygiene.specs.Renamed.{Texts, text_of}
 use Rattle.ecma_hygiene.proofs.Telling.{and-both, and-left, and-right, or-first, or-second, true-false}
 use Rattle.ecma_hygiene_scopes.specs.DeclaredIds.{DeclaredId, with_text}
@@ -18,9 +18,9 @@ use Rattle.ecma_hygiene_scopes.proofs.Sameness.{no_text}
 use Rattle.ecma_strip_conflicts.proofs.Fewer.{or-left, or-right}
 use Rattle.ecma_hygiene_conflicts.proofs.Marks.{Any, Below, and-none, any-holds, any-last, any-more, below-merged, body-parameters, both-none, first-none, hoisted-lexical, hoisted-plain, lexical-more, mark-below, mark-hoisted, mark-sym, mark-uncaught, more-meets, neither, never, none-meet, not-false, not-true, or-either, own-is, rest-none}
 
-module _ (r : Role) (before after : List ℕ → Option Bool) (texts : Texts) (body : Bool) (contexts : List ℕ) (seen binding : Id → Bool)
+module _ (r : Role) (before after : List ℕ → Option Bool) (texts : Texts) (body : Bool) (ids : List DeclaredId) (seen binding : Id → Bool)
     (tell : (a b : Id) → seen a ≡ true → binding b ≡ true → text_of texts a ≡ text_of texts b → a.0 ≡ b.0)
-    (one : (c d : ℕ) → has_context c contexts ≡ true → has_context d contexts ≡ true → c ≡ d)
+    (one : (d e : DeclaredId) → Contains ids d → Contains ids e → may_merge d.form ≡ true → e.id.0 ≡ d.id.0 → e.id ≡ d.id)
     (sound : has_parameters r ≡ true → (x : Id) → binding x ≡ true → is_stated (after (text_of texts x)) ≡ true → is_stated (before x.0) ≡ true) where
   abbrev pub old : DeclaredId → Declaration
   old = with_text no_text
@@ -34,7 +34,7 @@ module _ (r : Role) (before after : List ℕ → Option Bool) (texts : Texts) (b
     pub bound : binding d.id ≡ true
     pub hoisted : is_function_body r ≡ true → is_hoisted d.form ≡ true → body ≡ true
     pub uncaught : body ≡ true → is_catch d.form ≡ false
-    pub own : is_own r before (old d) ≡ true → has_context d.id.1 contexts ≡ true
+    pub here : Contains ids d
 
   pub record Passed (d : DeclaredId) : Type 0 where
     pub seen_it : seen d.id ≡ true
@@ -64,10 +64,10 @@ module _ (r : Role) (before after : List ℕ → Option Bool) (texts : Texts) (b
 
   -- what a declaration became
   record Became (later : List Declaration) (b : Declaration) : Type 0 where
-    id : Id
-    is : b.sym ≡ id.0
-    own : has_context id.1 contexts ≡ true
-    there : may_be_merged b.form ≡ true → list_any (λ e. bytes_eq e.sym (text_of texts id) && may_be_merged e.form) later ≡ true
+    declared : DeclaredId
+    is : b.sym ≡ declared.id.0
+    here : Contains ids declared
+    there : may_be_merged b.form ≡ true → list_any (λ e. bytes_eq e.sym (text_of texts declared.id) && may_be_merged e.form) later ≡ true
 
   -- ---- two declarations
 
@@ -90,7 +90,8 @@ module _ (r : Role) (before after : List ℕ → Option Bool) (texts : Texts) (b
   no-parameters a b x (inl f) = ap (λ (p : Bool). p && is_parameter b) (hoisted-plain a f.hoisted)
   no-parameters a b x (inr f) = ap (λ (p : Bool). is_parameter a && p) (hoisted-plain b f.hoisted) ∙ and-none (is_parameter a)
 
-  quiet-both : (a b : Declaration) (k : Known a) (l : Known b) (x : Id) → k.id.0 ≡ x.0 → l.id.0 ≡ x.0 → Further x a.form ⊎ Further x b.form → body ≡ true → has_parameters r ≡ true → is_stated (before x.0) ≡ true → may_not_meet r a.form b.form ≡ false
+  quiet-both : (a b : Declaration) (k : Known a) (l : Known b) (x : Id) → k.id.0 ≡ x.0 → l.id.0 ≡ x.0 → Further x a.form ⊎ Further x b.form → body ≡ true → has_parameters r ≡ true → is_stated (before x.0) ≡ true
+      → may_not_meet r a.form b.form ≡ false
   quiet-both a b k l x same also further block in_body stated =
       none-meet r a.form b.form
       (k.quiet in_body (ap (λ (t : List ℕ). is_stated (before t)) same ∙ stated))
@@ -126,27 +127,26 @@ module _ (r : Role) (before after : List ℕ → Option Bool) (texts : Texts) (b
 
   -- ---- what merges before, merges with final texts
 
-  merges-by : (later xs : List Declaration) (d : DeclaredId) → has_context d.id.1 contexts ≡ true → All (Became later) xs → list_any (λ e. bytes_eq e.sym d.id.0 && may_be_merged e.form) xs ≡ true
+  merges-by : (later xs : List Declaration) (d : DeclaredId) → Contains ids d → may_merge d.form ≡ true → All (Became later) xs → list_any (λ e. bytes_eq e.sym d.id.0 && may_be_merged e.form) xs ≡ true
       → list_any (λ e. bytes_eq e.sym (text_of texts d.id) && may_be_merged e.form) later ≡ true
-  merges-by later [] d own became h = absurd (true-false h refl)
-  merges-by later (x ∷ xs) d own became h =
+  merges-by later [] d here may became h = absurd (true-false h refl)
+  merges-by later (x ∷ xs) d here may became h =
       elim (or-either (bytes_eq x.sym d.id.0 && may_be_merged x.form) (list_any (λ e. bytes_eq e.sym d.id.0 && may_be_merged e.form) xs) h) [
-        | inl here ↦ found (All-head (Became later) x xs became) here
-        | inr later_on ↦ merges-by later xs d own (All-tail (Became later) x xs became) later_on
+        | inl first ↦ found (All-head (Became later) x xs became) first
+        | inr further ↦ merges-by later xs d here may (All-tail (Became later) x xs became) further
       ]
     where
       found : Became later x → (bytes_eq x.sym d.id.0 && may_be_merged x.form) ≡ true → list_any (λ e. bytes_eq e.sym (text_of texts d.id) && may_be_merged e.form) later ≡ true
-      found b here =
-          let text : b.id.0 ≡ d.id.0 = sym b.is ∙ (bytes_eq-Decides x.sym d.id.0).0 (and-left (bytes_eq x.sym d.id.0) (may_be_merged x.form) here) in
-          let ctxt : b.id.1 ≡ d.id.1 = one b.id.1 d.id.1 b.own own in
-          let same : ◌≡◌ {A = Id} (b.id.0, b.id.1) (d.id.0, d.id.1) = (λ j. (text j, ctxt j)) in
-          ap (λ (i : Id). list_any (λ e. bytes_eq e.sym (text_of texts i) && may_be_merged e.form) later) (sym same) ∙ b.there (and-right (bytes_eq x.sym d.id.0) (may_be_merged x.form) here)
+      found b first =
+          let text : b.declared.id.0 ≡ d.id.0 = sym b.is ∙ (bytes_eq-Decides x.sym d.id.0).0 (and-left (bytes_eq x.sym d.id.0) (may_be_merged x.form) first) in
+          ap (λ (i : Id). list_any (λ e. bytes_eq e.sym (text_of texts i) && may_be_merged e.form) later) (sym (one d b.declared here b.here may text))
+          ∙ b.there (and-right (bytes_eq x.sym d.id.0) (may_be_merged x.form) first)
 
-  merges-too : (later earlier : List Declaration) (d : DeclaredId) → has_context d.id.1 contexts ≡ true → All (Became later) earlier → merges earlier (old d) ≡ true → merges later (new d) ≡ true
-  merges-too later earlier d own became h =
-      and-both (may_merge d.form) (list_any (λ e. bytes_eq e.sym (text_of texts d.id) && may_be_merged e.form) later)
-      (and-left (may_merge d.form) (list_any (λ e. bytes_eq e.sym d.id.0 && may_be_merged e.form) earlier) h)
-      (merges-by later earlier d own became (and-right (may_merge d.form) (list_any (λ e. bytes_eq e.sym d.id.0 && may_be_merged e.form) earlier) h))
+  merges-too : (later earlier : List Declaration) (d : DeclaredId) → Contains ids d → All (Became later) earlier → merges earlier (old d) ≡ true → merges later (new d) ≡ true
+  merges-too later earlier d here became h =
+      let may : may_merge d.form ≡ true = and-left (may_merge d.form) (list_any (λ e. bytes_eq e.sym d.id.0 && may_be_merged e.form) earlier) h in
+      and-both (may_merge d.form) (list_any (λ e. bytes_eq e.sym (text_of texts d.id) && may_be_merged e.form) later) may
+      (merges-by later earlier d here may became (and-right (may_merge d.form) (list_any (λ e. bytes_eq e.sym d.id.0 && may_be_merged e.form) earlier) h))
 
   -- ---- one more declaration
 
@@ -169,8 +169,8 @@ module _ (r : Role) (before after : List ℕ → Option Bool) (texts : Texts) (b
     where
       more : Became later x → Became (later ++ a ∷ []) x
       more b =
-          let f : Declaration → Bool = λ e. bytes_eq e.sym (text_of texts b.id) && may_be_merged e.form in
-          record { id = b.id; is = b.is; own = b.own; there = λ m. list_any-append f later (a ∷ []) ∙ or-first (list_any f later) (list_any f (a ∷ [])) (b.there m) }
+          let f : Declaration → Bool = λ e. bytes_eq e.sym (text_of texts b.declared.id) && may_be_merged e.form in
+          record { declared = b.declared; is = b.is; here = b.here; there = λ m. list_any-append f later (a ∷ []) ∙ or-first (list_any f later) (list_any f (a ∷ [])) (b.there m) }
 
   all-last : (P : Declaration → Type 0) (xs : List Declaration) (a : Declaration) → All P xs → P a → All P (xs ++ a ∷ [])
   all-last P xs a all h = All-append P xs (a ∷ []) all (All-cons P a [] h (All-nil P))
@@ -238,15 +238,15 @@ module _ (r : Role) (before after : List ℕ → Option Bool) (texts : Texts) (b
     b = mark ys (old d)
 
     -- one that was its own before
-    own-clear : is_own r before (old d) ≡ true → clashing r before ys (b ∷ marked (ys ++ b ∷ []) (filter (is_own r before) (map old ds)) ++ map old ps) ≡ []
+    own-clear : clashing r before ys (b ∷ marked (ys ++ b ∷ []) (filter (is_own r before) (map old ds)) ++ map old ps) ≡ []
         → clashing r after xs (a ∷ marked (xs ++ a ∷ []) (filter (is_own r after) (map new ds)) ++ map new ps) ≡ []
-    own-clear own h =
+    own-clear h =
         let rest_old : List Declaration = marked (ys ++ b ∷ []) (filter (is_own r before) (map old ds)) ++ map old ps in
         let rest_new : List Declaration = marked (xs ++ a ∷ []) (filter (is_own r after) (map new ds)) ++ map new ps in
         let test : clashes r before ys b ≡ false = first-none (clashes r before ys b) b.sym (clashing r before (ys ++ b ∷ []) rest_old) h in
         let none : list_any (λ e. conflict r e b) ys ≡ false = or-left (list_any (λ e. conflict r e b) ys) (has_parameters r && (is_lexical r b.form && is_stated (before b.sym))) test in
         let alone : (has_parameters r && (is_lexical r b.form && is_stated (before b.sym))) ≡ false = or-right (list_any (λ e. conflict r e b) ys) (has_parameters r && (is_lexical r b.form && is_stated (before b.sym))) test in
-        let below : Below a.form b.form = mark-below xs ys (new d) (old d) refl (merges-too xs ys d (known.own own) became) in
+        let below : Below a.form b.form = mark-below xs ys (new d) (old d) refl (merges-too xs ys d known.here became) in
         let k : Known a = record {
           id = d.id;
           is = mark-sym xs (new d);
@@ -264,9 +264,9 @@ module _ (r : Role) (before after : List ℕ → Option Bool) (texts : Texts) (b
         (rec (xs ++ a ∷ []) (ys ++ b ∷ [])
         (all-last (Origin (ys ++ b ∷ [])) xs a (origins-more ys b xs origins) (k, inl (any-last (Was d.id a.form) ys b (mark-sym ys (old d), below))))
         (all-last (Became (xs ++ a ∷ [])) ys b (became-more xs a ys became) (record {
-          id = d.id;
+          declared = d;
           is = mark-sym ys (old d);
-          own = known.own own;
+          here = known.here;
           there = λ may. list_any-append f xs (a ∷ [])
               ∙ or-second (list_any f xs) (f a || false)
               (or-first (f a) false (and-both (bytes_eq a.sym (text_of texts d.id)) (may_be_merged a.form) ((bytes_eq-Decides a.sym (text_of texts d.id)).1 (mark-sym xs (new d))) (below-merged a.form b.form below may)));
@@ -299,7 +299,7 @@ module _ (r : Role) (before after : List ℕ → Option Bool) (texts : Texts) (b
     step : (s t : Bool) → is_own r before (old d) ≡ s → is_own r after (new d) ≡ t
         → clashing r before ys (marked ys (cond s (old d ∷ filter (is_own r before) (map old ds)) (filter (is_own r before) (map old ds))) ++ map old ps) ≡ []
         → clashing r after xs (marked xs (cond t (new d ∷ filter (is_own r after) (map new ds)) (filter (is_own r after) (map new ds))) ++ map new ps) ≡ []
-    step true true own also h = own-clear own h
+    step true true own also h = own-clear h
     step true false own also h = absurd (true-false (own-both own) also)
     step false true own also h = further-clear (further own) h
     step false false own also h = rec xs ys origins became h

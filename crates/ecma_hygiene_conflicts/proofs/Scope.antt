@@ -1,7 +1,7 @@
 -- A scope with final texts: what is declared again in it was before.
 use Rattle.std.proofs.Common.{◌≡◌, ◌⊎◌, inl, inr, ℕ, Bool, true, false, ◌&&◌, ◌||◌, not, cond, filter, List, [], ◌∷◌, ◌++◌, map, Option, Some, None, refl, sym, ap, ap₂, ◌∙◌, subst, bytes_eq, get_or}
-use Rattle.std.specs.List.{All, list_any}
-use Rattle.std.proofs.lemmas.List.Elements.{All-append, All-head, All-tail}
+use Rattle.std.specs.List.{All, Contains, list_any}
+use Rattle.std.proofs.lemmas.List.Elements.{All-append, All-contains, All-head, All-tail, Contains-get_or}
 use Rattle.std.proofs.lemmas.Slice.Eq.{bytes_eq-Decides}
 use Rattle.ecma_kind.specs.declared.kind.Kind.{Kind}
 use Rattle.ecma_kind.specs.declared.kind.Kind.TheVariants as kind
@@ -14,7 +14,7 @@ use Rattle.ecma_scope.specs.declared.form.Part.TheVariants as part
 use Rattle.ecma_scope.specs.declared.form.Sought.{Sought}
 use Rattle.ecma_scope.specs.declared.role.Role.{Role}
 use Rattle.ecma_scope.specs.declared.role.Role.TheVariants as role
-use Rattle.ecma_scope.specs.Conflicts.{clashing, has_parameters, is_catch, is_further_out, marked, meeting, own_clashes, passing, surrounds}
+use Rattle.ecma_scope.specs.Conflicts.{clashing, has_parameters, is_catch, is_further_out, marked, may_merge, meeting, own_clashes, passing, surrounds}
 use Rattle.ecma_scope.specs.Declarations.{declares, holds_vars, is_hoisted, is_own, is_stated, keeps, names, stated}
 use Rattle.ecma_scope.specs.Resolved.{is_name}
 use Rattle.ecma_scope.specs.Scopes.{covers, is_ambient, is_there, opens, opens_by, role_by, role_in}
@@ -30,15 +30,14 @@ use Rattle.ecma_hygiene.specs.Renamed.{Texts, standing_in, text_of}
 use Rattle.ecma_hygiene.specs.Sights.{Around, around_child, own_scope, sights_at}
 use Rattle.ecma_hygiene.specs.Texts.{AreTexts, is_bound, text_in}
 use Rattle.ecma_hygiene.proofs.Bound.{own-bound}
-use Rattle.ecma_hygiene.proofs.Telling.{and-both, and-left, and-right, id-refl, or-first, or-second, texts-tell-apart, true-false}
-use Rattle.ecma_hygiene_scopes.specs.Apart.{IsScoped, own_contexts}
+use Rattle.ecma_hygiene.proofs.Telling.{and-both, and-right, id-refl, or-first, or-second, texts-tell-apart, true-false}
+use Rattle.ecma_hygiene_scopes.specs.Apart.{IsScoped}
 use Rattle.ecma_hygiene_scopes.specs.DeclaredIds.{DeclaredId, ids_declared, scope_ids, with_text}
 use Rattle.ecma_hygiene_scopes.specs.Stops.{Stop}
 use Rattle.ecma_hygiene_scopes.proofs.Forms.{forms, is_item_form}
 use Rattle.ecma_hygiene_scopes.proofs.KindsTurned.{covers-same, holds-same, opens-same, role-same}
 use Rattle.ecma_hygiene_scopes.proofs.Declaring.{plain-declares}
-use Rattle.ecma_hygiene_scopes.proofs.Mapping.{own-has}
-use Rattle.ecma_hygiene_scopes.proofs.Membership.{id-same, is_kept, own-agrees}
+use Rattle.ecma_hygiene_scopes.proofs.Membership.{is_kept, own-agrees}
 use Rattle.ecma_hygiene_scopes.proofs.Parts.{children-of, kind-of}
 use Rattle.ecma_hygiene_scopes.proofs.Passing.{block-list, list-forms}
 use Rattle.ecma_hygiene_scopes.proofs.Sameness.{declares-ids, no_text}
@@ -47,8 +46,9 @@ use Rattle.ecma_hygiene_scopes.proofs.Stopping.{IsAmong, all-among}
 use Rattle.ecma_hygiene_scopes.proofs.Written.{children_again, own_kind}
 use Rattle.ecma_strip_conflicts.proofs.HasParameters.{HasParameters, has-parameters}
 use Rattle.ecma_strip_conflicts.proofs.Scope.{names-ids}
+use Rattle.ecma_hygiene_conflicts.specs.Merging.{MergesAsOne}
 use Rattle.ecma_hygiene_conflicts.proofs.Lists.{Declared, Passed, clear}
-use Rattle.ecma_hygiene_conflicts.proofs.Marks.{never, not-true, or-either, own-is}
+use Rattle.ecma_hygiene_conflicts.proofs.Marks.{never, or-either, own-is}
 use Rattle.ecma_hygiene_conflicts.proofs.Seen.{sees}
 use Rattle.ecma_hygiene_conflicts.proofs.Staying.{all-cond, all-other, all-staying, bound-seen, kept-all, map-cond, staying-map}
 
@@ -107,10 +107,9 @@ module _ (seen : List Sight) (met : List Meeting) (names_of : List Named) (are :
       by true is = (bytes_eq-Decides a.0 b.0).0 is
       by false is = absurd (texts-tell-apart seen met names_of a b are sees binds (λ equal. differ is (ap (λ (i : Id). i.0) equal)) (λ old also equal. absurd (differ is equal)) same)
 
-  -- what scopes around the body of a function or the block of a `catch` state, by the texts before and by final texts, and what the innermost scope declares
+  -- what scopes around the body of a function or the block of a `catch` state, by the texts before and by final texts, and that what the innermost scope declares is bound
   pub record Sound (r : Role) (before after : List ℕ → Option Bool) (scope : Scope) : Type 0 where
     pub written : has_parameters r ≡ true → (x : Id) → is_bound seen x ≡ true → is_stated (after (text_of texts x)) ≡ true → is_stated (before x.0) ≡ true
-    pub declared : has_parameters r ≡ true → (x : Id) → has_context x.1 (scope x.0) ≡ true → is_stated (before x.0) ≡ true
     pub bound : (x : Id) → has_context x.1 (scope x.0) ≡ true → is_bound seen x ≡ true
 
   module _ (free : ℕ) (n : Node) (s : Around) (at : Spot) (left : ℕ) (before after : List ℕ → Option Bool) where
@@ -212,7 +211,7 @@ module _ (seen : List Sight) (met : List Meeting) (names_of : List Named) (are :
     pub surrounds-plain : (i : ℕ) → surrounds (record { role = r; around = after }) plain i ≡ record { role = role_in r n i; around = states_after i }
     surrounds-plain i = (λ j. record { role = role-plain i j; around = cond (opens-plain j && covers-plain i j) (stated (names-after j)) after })
 
-    module _ (scoped : IsScoped free stop) (within : (f : Sight → Bool) → list_any f (sights_at n s) ≡ true → list_any f seen ≡ true) (sound : Sound r before after (innermost s.scopes)) where
+    module _ (scoped : IsScoped free stop) (merging : MergesAsOne stop) (within : (f : Sight → Bool) → list_any f (sights_at n s) ≡ true → list_any f seen ≡ true) (sound : Sound r before after (innermost s.scopes)) where
       abbrev body : Bool
       body = is_body_block r k
 
@@ -245,25 +244,17 @@ module _ (seen : List Sight) (met : List Meeting) (names_of : List Named) (are :
             by true own = own-binds d.id (own-agrees d.id r s.scopes n ∙ and-both (list_any (is_kept d.id) all) (ids.is_own body (innermost s.scopes) d.id) is own)
             by false own = sound.bound d.id (of-body body (has_context d.id.1 (innermost s.scopes d.id.0)) own)
 
-        -- an id that the scope has by its texts, it has in its context
-        own-context : (d : DeclaredId) → IsOne d → (body ≡ true → has_context d.id.1 (innermost s.scopes d.id.0) ≡ true → is_hoisted d.form ≡ true) → is_own r before (old d) ≡ true → has_context d.id.1 (own_contexts stop) ≡ true
-        own-context d is parameter own =
-            own-has stop d.id opened
-            (own-agrees d.id r s.scopes n
-            ∙ and-both (list_any (is_kept d.id) all) (ids.is_own body (innermost s.scopes) d.id) is
-            (ap not (not-true (body && has_context d.id.1 (innermost s.scopes d.id.0)) (λ both. no-parameter
-            (and-left body (has_context d.id.1 (innermost s.scopes d.id.0)) both) (and-right body (has_context d.id.1 (innermost s.scopes d.id.0)) both)))))
-          where
-            no-parameter : body ≡ true → has_context d.id.1 (innermost s.scopes d.id.0) ≡ true → ⊥
-            no-parameter block has =
-                let is_body : r ≡ role.Body = block-role r k block in
-                true-false own (own-is r before (old d) ∙ (λ j. not (ids.is_function_body (is_body j) && (parameter block has j && sound.declared (ap has_parameters is_body) d.id has j))))
+        -- what merges is one variable
+        one : (d e : DeclaredId) → Contains all d → Contains all e → may_merge d.form ≡ true → e.id.0 ≡ d.id.0 → e.id ≡ d.id
+        one d e here also may =
+            All-contains (λ (x : DeclaredId). x.id.0 ≡ d.id.0 → x.id ≡ d.id) all e
+            (All-contains (λ (y : DeclaredId). may_merge y.form ≡ true → All (λ (x : DeclaredId). x.id.0 ≡ y.id.0 → x.id ≡ y.id) all) all d merging here may) also
 
         abbrev IsDeclared : DeclaredId → Type 0
-        IsDeclared = Declared r before after texts body (own_contexts stop) (is_seen seen) (is_bound seen) tell scoped.one sound.written
+        IsDeclared = Declared r before after texts body all (is_seen seen) (is_bound seen) tell one sound.written
 
         abbrev IsPassed : DeclaredId → Type 0
-        IsPassed = Passed r before after texts body (own_contexts stop) (is_seen seen) (is_bound seen) tell scoped.one sound.written
+        IsPassed = Passed r before after texts body all (is_seen seen) (is_bound seen) tell one sound.written
 
         uncaught : body ≡ true → All Uncaught all
         uncaught block = subst (λ (z : Role). All Uncaught (scope_ids z n)) (sym (block-role r k block)) (body-uncaught n (block-is r k block))
@@ -274,19 +265,17 @@ module _ (seen : List Sight) (met : List Meeting) (names_of : List Named) (are :
         body-is : (r ≡ role.Body) → is_block k ≡ true → body ≡ true
         body-is is block = (λ j. ids.is_function_body (is j) && block j)
 
-        declared-one : (d : DeclaredId) → IsOne d → (r ≡ role.Body → is_hoisted d.form ≡ true → is_block k ≡ true) → (body ≡ true → has_context d.id.1 (innermost s.scopes d.id.0) ≡ true → is_hoisted d.form ≡ true) → (body ≡ true → Uncaught d)
-            → IsDeclared d
-        declared-one d is blocks parameter free_of_catch = record {
+        declared-one : (d : DeclaredId) → IsOne d → Contains all d → (r ≡ role.Body → is_hoisted d.form ≡ true → is_block k ≡ true) → (body ≡ true → Uncaught d) → IsDeclared d
+        declared-one d is there blocks free_of_catch = record {
           seen_it = bound-seen seen d.id (is-bound d is);
           bound = is-bound d is;
           hoisted = λ in_body hoisted. body-is (is-body r in_body) (blocks (is-body r in_body) hoisted);
           uncaught = free_of_catch;
-          own = own-context d is parameter;
+          here = there;
         }
 
         all-declared : All IsDeclared all
-        all-declared i d lt =
-            declared-one (get_or all i d) (ones i d lt) (λ is. (scoped.declares opened).blocks is i d lt) (λ block. (scoped.declares opened).parameters block i d lt) (λ block. uncaught block i d lt)
+        all-declared i d lt = declared-one (get_or all i d) (ones i d lt) (Contains-get_or all i d lt) (λ is. (scoped.declares opened).blocks is i d lt) (λ block. uncaught block i d lt)
 
         var-passed : All IsPassed (ids_declared n var)
         var-passed i d lt = record { seen_it = within (λ y. same_id y.id _) (sees n var s (λ h. absurd (true-false h refl)) i d lt); is = forms n var i d lt }
@@ -297,7 +286,7 @@ module _ (seen : List Sight) (met : List Meeting) (names_of : List Named) (are :
         clashing-none : clashing r before [] (meeting r before n) ≡ [] → clashing r after [] (meeting r after plain) ≡ []
         clashing-none h =
             ap (clashing r after []) (meeting-after stay)
-            ∙ clear r before after texts body (own_contexts stop) (is_seen seen) (is_bound seen) tell scoped.one sound.written all passed all-declared all-passed
+            ∙ clear r before after texts body all (is_seen seen) (is_bound seen) tell one sound.written all passed all-declared all-passed
             (sym (ap (clashing r before []) (meeting-before stay)) ∙ h)
 
         -- ---- around the body of a function and the block of a `catch`
@@ -339,14 +328,6 @@ module _ (seen : List Sight) (met : List Meeting) (names_of : List Named) (are :
               by true h rec = elim (or-either (bytes_eq (text_of texts d.id) (text_of texts x)) (declares (filter (is_own r after) (map new ds)) (text_of texts x)) h) [ inl is ↦ inl (here is) | inr later ↦ inr (rec later) ]
               by false h rec = inr (rec h)
 
-          declares-kept : (x : Id) (ds : List DeclaredId) → All (λ d. is_own r before (old d) ≡ true) ds → list_any (is_kept x) ds ≡ true → declares (filter (is_own r before) (map old ds)) x.0 ≡ true
-          declares-kept x [] own h = h
-          declares-kept x (d ∷ ds) own h =
-              declares-one d ds x.0 (All-head (λ d. is_own r before (old d) ≡ true) d ds own) (elim (or-either (is_kept x d) (list_any (is_kept x) ds) h) [
-                | inl is ↦ inl ((bytes_eq-Decides d.id.0 x.0).1 (ap (λ (y : Id). y.0) (id-same d.id x (and-left (same_id d.id x) d.stays is))))
-                | inr later ↦ inr (declares-kept x ds (All-tail (λ d. is_own r before (old d) ≡ true) d ds own) later)
-              ])
-
           covered : (opens r n && covers r k i) ≡ true
           covered = and-both (opens r n) (covers r k i) opened has.covers
 
@@ -357,16 +338,8 @@ module _ (seen : List Sight) (met : List Meeting) (names_of : List Named) (are :
           after-is : (text : List ℕ) → is_stated (states_after i text) ≡ declares own_after text
           after-is text = (λ j. is_stated (cond (covered j) (stated own_after) after text)) ∙ stated-is (declares own_after text) (keeps own_after text)
 
-          inner-is : innermost (around_child s n i).scopes ≡ own_scope r s.scopes n
-          inner-is = (λ j. innermost (cond (covered j) (s.scopes ++ own_scope r s.scopes n ∷ []) s.scopes)) ∙ inner-last s.scopes (own_scope r s.scopes n)
-
           body-written : (x : Id) → is_bound seen x ≡ true → is_stated (states_after i (text_of texts x)) ≡ true → is_stated (states_before i x.0) ≡ true
           body-written x binds h = before-is x.0 ∙ declares-before x binds all all-own all-declared (sym (after-is (text_of texts x)) ∙ h)
-
-          body-declared : (x : Id) → has_context x.1 (innermost (around_child s n i).scopes x.0) ≡ true → is_stated (states_before i x.0) ≡ true
-          body-declared x h =
-              before-is x.0
-              ∙ declares-kept x all all-own (and-left (list_any (is_kept x) all) (ids.is_own body (innermost s.scopes) x) (sym (own-agrees x r s.scopes n) ∙ sym (ap (λ (w : Scope). has_context x.1 (w x.0)) inner-is) ∙ h))
 
       has-of : (i : ℕ) → has_parameters (role_in r n i) ≡ true → HasParameters r k i
       has-of i is = has-parameters r k (is_there (out-Node n).children 1) i is
@@ -382,7 +355,6 @@ module _ (seen : List Sight) (met : List Meeting) (names_of : List Named) (are :
       pub sound-below : (i : ℕ) → Sound (role_in r n i) (states_before i) (states_after i) (innermost (around_child s n i).scopes)
       sound-below i = record {
         written = λ is. body-written (opens-of i (has-of i is)) i (has-of i is);
-        declared = λ is. body-declared (opens-of i (has-of i is)) i (has-of i is);
         bound = inner-bound i (opens r n) (covers r k i) refl;
       }
 

@@ -116,7 +116,7 @@ module _ (texts : Texts) (free : ℕ) where
   abbrev pub StaysAt : ℕ → Type 0
   StaysAt ctxt = (text : List ℕ) → text_of texts (text, ctxt) ≡ text
 
-  one-at : (ctxt : ℕ) → StaysAt ctxt → (a b : Id) → a.ctxt ≡ ctxt → b.ctxt ≡ ctxt → written texts a ≡ written texts b → a ≡ b
+  pub one-at : (ctxt : ℕ) → StaysAt ctxt → (a b : Id) → a.ctxt ≡ ctxt → b.ctxt ≡ ctxt → written texts a ≡ written texts b → a ≡ b
   one-at ctxt stays a b ea eb same =
       let text : a.sym ≡ b.sym = sym (stays a.sym) ∙ ap (λ z. text_of texts (a.sym, z)) (sym ea) ∙ same ∙ ap (λ z. text_of texts (b.sym, z)) eb ∙ stays b.sym in
       let ctxts : a.ctxt ≡ b.ctxt = ea ∙ sym eb in

@@ -1,7 +1,7 @@
-mod Among
+pub mod Among
 mod Clear
 mod Roles
-mod Naming
+pub mod Naming
 mod Looking
 mod Fine
 mod Meeting

@@ -1,4 +1,5 @@
 pub mod Places
 pub mod Records
 pub mod Texts
+pub mod Meets
 pub mod Laws

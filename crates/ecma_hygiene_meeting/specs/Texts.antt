@@ -1,5 +1,5 @@
 -- Trees of which the written texts are read as the ids say, whatever contexts scopes share.
-use Rattle.std.specs.Prelude.{◌≡◌, ◌≢◌, ℕ, Bool, true, false, List, Some, bytes_eq, codes}
+use Rattle.std.specs.Prelude.{◌≡◌, ◌≢◌, ◌⊎◌, ℕ, Bool, true, false, List, Some, bytes_eq, codes}
 use Rattle.std.specs.List.{All}
 use Rattle.ecma_kind.specs.declared.kind.Kind.TheVariants as kind
 use Rattle.ecma_tree.specs.declared.node.Node.{Node, out-Node}
@@ -13,8 +13,8 @@ use Rattle.ecma_runs.specs.State.{Id}
 use Rattle.ecma_runs.specs.Environment.{ids_of, is_among}
 use Rattle.ecma_runs.specs.Exports.{export_names, local_ids}
 use Rattle.ecma_runs.specs.Evaluation.{meaning}
-use Rattle.ecma_runs.specs.Names.{keys_in}
 use Rattle.ecma_runs.specs.Observation.{exports_in}
+use Rattle.ecma_runs.specs.Sought.{sought_in}
 use Rattle.ecma_hygiene_meeting.specs.Places.{Place, places}
 use Rattle.ecma_hygiene_meeting.specs.Records.{declares_id}
 
@@ -39,18 +39,18 @@ pub record TellsNames (texts : Texts) (free : ℕ) (place : Place) : Type 0 wher
   pub parameters : is_body_block place.around.role (out-Node place.node).kind ≡ true → (parameter name : Id) → declares_id (innermost place.around.scopes) parameter ≡ true
       → declares_id (own_scope place.around.role place.around.scopes place.node) name ≡ true → written texts parameter ≡ written texts name → ⊥
 
--- what has another text is declared, and is not `this`
-pub record IsRewritten (tree : Node) (id : Id) (text : List ℕ) : Type 0 where
+-- what has another text is declared, in a context that is neither the empty one nor that of free names, and is not `this`
+pub record IsRewritten (free : ℕ) (tree : Node) (id : Id) (text : List ℕ) : Type 0 where
   pub declared : is_among id (meaning tree).declared ≡ true
+  pub inner : id.ctxt ≢ 0
+  pub bound : id.ctxt ≢ free
   pub apart : bytes_eq id.sym (codes "this") ≡ false
   pub text_apart : bytes_eq text (codes "this") ≡ false
 
 -- what is told of the names of a tree, where free names have this context
 pub record NamesAreTold (texts : Texts) (free : ℕ) (tree : Node) : Type 0 where
   pub told : All (TellsNames texts free) (places tree)
-  pub declared : (id : Id) → is_among id (meaning tree).declared ≡ true → (id.ctxt ≢ 0) × (id.ctxt ≢ free)
-  pub given : (id : Id) (text : List ℕ) → texts (id.sym, id.ctxt) ≡ Some text → IsRewritten tree id text
-  pub keys : All (λ id. written texts id ≡ id.sym) (keys_in tree)
+  pub given : (id : Id) (text : List ℕ) → texts (id.sym, id.ctxt) ≡ Some text → IsRewritten free tree id text
 
 -- with these texts nothing is captured
 pub record IsReadByTexts (texts : Texts) (free : ℕ) (tree : Node) : Type 0 where
@@ -62,7 +62,8 @@ pub record KeepsFreeApart (to : ℕ → ℕ) (free : ℕ) : Type 0 where
   pub empty : (ctxt : ℕ) → to ctxt ≡ to 0 → ctxt ≡ 0
   pub free_names : (ctxt : ℕ) → to ctxt ≡ to free → ctxt ≡ free
 
--- what a module exports are variables of its own, and those that are exported under their own names keep their texts
-pub record KeepsExports (texts : Texts) (tree : Node) : Type 0 where
-  pub own : (id : Id) → is_among id (local_ids (exports_in tree)) ≡ true → is_among id (ids_of (meaning tree).locals) ≡ true
+-- what a module exports are variables of its own, names that it looks up, or free ones, and those that are exported under their own names keep their texts
+pub record KeepsExports (texts : Texts) (free : ℕ) (tree : Node) : Type 0 where
+  pub own : (id : Id) → is_among id (local_ids (exports_in tree)) ≡ true
+      → (is_among id (ids_of (meaning tree).locals) ≡ true) ⊎ ((is_among id (sought_in tree).sought ≡ true) ⊎ (id.ctxt ≡ free))
   pub stay : All (λ id. written texts id ≡ id.sym) (export_names (exports_in tree))

@@ -229,7 +229,7 @@ all-unexported (n ∷ ns) p =
     let b = list_all (λ b. b) (map is_plain (map (λ e. e.0) ns)) in
     and-both (has_no_exported_import n.0) (list_all (λ b. b) (map has_no_exported_import (map (λ e. e.0) ns))) (n.1 (and-left a b p)) (all-unexported ns (and-right a b p))
 
-unexported : (n : Node) → Unexported n
+pub unexported : (n : Node) → Unexported n
 unexported = ind-Node Unexported (λ x y is p.
     let a = plain_by x.kind x.children in
     let b = list_all (λ b. b) (map is_plain x.children) in

@@ -1,14 +1,13 @@
 -- A resolved tree with its final texts runs as it does with its own.
-use Rattle.std.proofs.Common.{◌≡◌, refl, sym, ap, ap₂, ◌∙◌, subst, ℕ, ◌==◌, List, [], ◌∷◌, map, Option, Some, None, Bool, true, false, ◌||◌, bytes_eq, codes, unwrap_or}
+use Rattle.std.proofs.Common.{◌≡◌, refl, sym, ap, ◌∙◌, subst, ℕ, ◌==◌, List, [], ◌∷◌, map, Option, Some, None, Bool, true, false, ◌||◌, bytes_eq, codes, unwrap_or}
 use Rattle.std.specs.List.{All}
 use Rattle.std.proofs.lemmas.Bool.{eqb-true}
 use Rattle.std.proofs.lemmas.List.Elements.{All-cons, All-head, All-nil, All-tail}
-use Rattle.ecma_kind.specs.declared.kind.Kind.{Kind}
-use Rattle.ecma_kind.specs.declared.kind.Kind.TheVariants as kind
-use Rattle.ecma_tree.specs.Contexts.{kind_with_context, with_contexts}
-use Rattle.ecma_tree.specs.Nodes.{node_of}
-use Rattle.ecma_tree.specs.declared.node.Node.{Node, ind-Node}
+use Rattle.ecma_tree.specs.Contexts.{with_contexts}
+use Rattle.ecma_tree.specs.declared.node.Node.{Node}
 use Rattle.ecma_scope.specs.declared.role.Role.TheVariants as role
+use Rattle.ecma_scope.specs.Laws.{without_contexts}
+use Rattle.ecma_scope.specs.Resolved.{resolved}
 use Rattle.ecma_hygiene.specs.declared.naming.Named.{Named}
 use Rattle.ecma_hygiene.specs.declared.sight.Sight.{Sight}
 use Rattle.ecma_hygiene.specs.declared.spot.Spot.TheVariants as spot
@@ -20,8 +19,8 @@ use Rattle.ecma_hygiene.specs.Sights.{meetings, nowhere, sights}
 use Rattle.ecma_hygiene.specs.Texts.{HygienicTexts, is_bound, text_in}
 use Rattle.ecma_hygiene.proofs.Telling.{id-refl, or-first, or-second, texts-tell-apart, true-false}
 use Rattle.ecma_hygiene_scopes.proofs.Membership.{id-same}
-use Rattle.ecma_hygiene_scopes.proofs.Parts.{contexts-of}
 use Rattle.ecma_hygiene_scopes.proofs.ReadingAgain.{is-read-again}
+use Rattle.ecma_hygiene_scopes.proofs.Sameness.{contexts-stay}
 use Rattle.ecma_hygiene_scopes.proofs.Stopping.{IsAmong, all-among}
 use Rattle.ecma_config.specs.declared.config.Config.{Config}
 use Rattle.ecma_runs.specs.declared.script.Script.{Script}
@@ -196,26 +195,15 @@ module _ (onto : ℕ → ℕ) (tree : Node) (names : List Named) (are : Hygienic
 
 -- the tree with its own contexts
 
-own-kind : (k : Kind) → kind_with_context (λ text ctxt. ctxt) k ≡ k
-own-kind (kind.Ident text ctxt optional) = refl
-own-kind _ = refl
-
-all-own : (ns : List ((n : Node) × (with_contexts (λ text ctxt. ctxt) n ≡ n))) → map (with_contexts (λ text ctxt. ctxt)) (map (λ e. e.0) ns) ≡ map (λ e. e.0) ns
-all-own [] = refl
-all-own (n ∷ ns) = ap₂ (λ a rest. a ∷ rest) n.1 (all-own ns)
-
-own-contexts : (n : Node) → with_contexts (λ text ctxt. ctxt) n ≡ n
-own-contexts = ind-Node (λ n. with_contexts (λ text ctxt. ctxt) n ≡ n) (λ x y is.
-    contexts-of (λ text ctxt. ctxt) x.span x.kind x.children
-    ∙ ap₂ (node_of x.span) (own-kind x.kind) (ap (λ z. map (with_contexts (λ text ctxt. ctxt)) z.children) (sym is) ∙ all-own y.children ∙ ap (λ z. z.children) is))
-
 same-apart : (tree : Node) → KeepsApart (λ ctxt. ctxt) tree
 same-apart tree = record { none = refl; inner = λ text ctxt s e. e; apart = λ text c d s t e. e }
 
 pub final_texts_keep_runs : FinalTextsKeepRuns
 final_texts_keep_runs turns options tree names script are exported is =
-    ap (λ n. observe turns options n script) (sym (own-contexts (hygiene.renamed (text_in names) tree))) ∙ final_runs (λ ctxt. ctxt) tree names are exported is (same-apart tree) turns options script
+    ap (λ n. observe turns options n script) (sym (contexts-stay (hygiene.renamed (text_in names) tree))) ∙ final_runs (λ ctxt. ctxt) tree names are exported is (same-apart tree) turns options script
 
 pub reading_again_keeps_runs : ReadingAgainKeepsRuns
 reading_again_keeps_runs turns options unresolved top left to tree names script are exported right is keeps =
-    ap (λ n. observe turns options n script) (is-read-again unresolved top left to tree names are keeps.none right) ∙ final_runs to tree names are exported is keeps turns options script
+    ap (λ n. observe turns options n script)
+    (sym (contexts-stay (resolved unresolved top left (without_contexts (hygiene.renamed (text_in names) tree)))) ∙ is-read-again unresolved top left (λ ctxt. ctxt) to tree names are keeps.none right)
+    ∙ final_runs to tree names are exported is keeps turns options script

@@ -1,11 +1,11 @@
-mod WritingOut
-mod Parts
+pub mod WritingOut
+pub mod Parts
 mod FinalParts
-mod FinalTree
-mod Renaming
-mod GivenTexts
+pub mod FinalTree
+pub mod Renaming
+pub mod GivenTexts
 mod Passing
-mod Apart
+pub mod Apart
 mod SortedNames
 mod KeysShown
 mod FinalRuns
@@ -14,4 +14,4 @@ mod Sorted
 mod Seeking
 mod Covering
 mod Last
-mod Declaring
+pub mod Declaring

@@ -57,6 +57,6 @@ FinalTextsKeepRuns =
 abbrev pub ReadingAgainKeepsRuns : Type 0
 ReadingAgainKeepsRuns =
     (turns : ℕ) (options : Config) (unresolved top left : ℕ) (to : ℕ → ℕ) (tree : Node) (names : List Named) (script : Script)
-    → HygienicTexts tree names → KeepsExportedTexts (text_of (text_in names)) tree → All (IsRight unresolved top to) (stops left tree) → IsResolved tree
+    → HygienicTexts tree names → KeepsExportedTexts (text_of (text_in names)) tree → All (IsRight unresolved top (λ ctxt. ctxt) to) (stops left tree) → IsResolved tree
     → KeepsApart to tree
     → observe turns options (resolved unresolved top left (without_contexts (renamed (text_in names) tree))) script ≡ observe turns options tree script

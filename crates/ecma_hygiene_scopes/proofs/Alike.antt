@@ -93,16 +93,17 @@ module _ (texts : Texts) where
         found-by text d ds (test (with_text texts d)) refl (All-head Q d ds all) (All-head (λ (d : DeclaredId). d.stays ≡ true) d ds stay)
         (found-id text ds (All-tail Q d ds all) (All-tail (λ (d : DeclaredId). d.stays ≡ true) d ds stay)) h
 
-  module _ (to : ℕ → ℕ) (is_binding : Id → Bool) where
+  module _ (from to : ℕ → ℕ) (is_binding : Id → Bool) where
     -- what a scope states of texts says which ids it declares
     pub record States (own : Scope) (states : List ℕ → Option Bool) : Type 0 where
       pub written : (b : Id) → has_context b.1 (own b.0) ≡ true → states (text_of texts b) ≡ Some true
       pub only : (text : List ℕ) → (states text ≡ None) ⊎ Writes texts own text
       pub bound : (b : Id) → has_context b.1 (own b.0) ≡ true → is_binding b ≡ true
 
+    -- and gives them its context, up to both maps
     pub record Alike (own : Scope) (frame : Frame) : Type 0 where
       pub states : States own frame.states
-      pub number : (b : Id) → has_context b.1 (own b.0) ≡ true → to b.1 ≡ frame.ctxt
+      pub number : (b : Id) → has_context b.1 (own b.0) ≡ true → to b.1 ≡ from frame.ctxt
 
     -- scopes in force beside those of the tree that it was
     abbrev pub Like : List Scope → List Frame → Type 0

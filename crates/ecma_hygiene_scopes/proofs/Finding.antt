@@ -20,7 +20,7 @@ use Rattle.ecma_hygiene.proofs.Walking.{gathered-out}
 use Rattle.ecma_hygiene_scopes.proofs.Alike.{Like}
 use Rattle.ecma_hygiene_scopes.proofs.Membership.{contexts-agree, id-same, turned}
 
-module _ (unresolved : ℕ) (texts : Texts) (to : ℕ → ℕ) (is_binding : Id → Bool) where
+module _ (unresolved : ℕ) (texts : Texts) (from to : ℕ → ℕ) (is_binding : Id → Bool) where
   abbrev NoneWrites : List Scope → List ℕ → Type 0
   NoneWrites [] text = Unit {0}
   NoneWrites (w ∷ ws) text = (Writes texts w text → ⊥) × NoneWrites ws text
@@ -31,7 +31,7 @@ module _ (unresolved : ℕ) (texts : Texts) (to : ℕ → ℕ) (is_binding : Id 
       (captured before w ws is none, quiet name all captured (before ++ w ∷ []) ws (is ∙ sym (append_assoc before (w ∷ []) ws)) none.1)
 
   -- scopes of which none writes a text leave it to those around them
-  none-gives : (ws : List Scope) (fs : List Frame) (text : List ℕ) (outer : ℕ) → Like texts to is_binding ws fs → NoneWrites ws text → context_in unresolved fs text outer ≡ outer
+  none-gives : (ws : List Scope) (fs : List Frame) (text : List ℕ) (outer : ℕ) → Like texts from to is_binding ws fs → NoneWrites ws text → context_in unresolved fs text outer ≡ outer
   none-gives [] [] text outer like none = refl
   none-gives [] (f ∷ fs) text outer like none = absurd like
   none-gives (w ∷ ws) [] text outer like none = absurd like
@@ -42,12 +42,12 @@ module _ (unresolved : ℕ) (texts : Texts) (to : ℕ → ℕ) (is_binding : Id 
       ]
 
   -- and the innermost that writes it gives it its own context
-  kept-gives : (before : List Scope) (w : Scope) (inner : List Scope) (fs : List Frame) (b : Id) (outer : ℕ) → Like texts to is_binding (before ++ w ∷ inner) fs → has_context b.1 (w b.0) ≡ true
-      → NoneWrites inner (text_of texts b) → context_in unresolved fs (text_of texts b) outer ≡ to b.1
+  kept-gives : (before : List Scope) (w : Scope) (inner : List Scope) (fs : List Frame) (b : Id) (outer : ℕ) → Like texts from to is_binding (before ++ w ∷ inner) fs → has_context b.1 (w b.0) ≡ true
+      → NoneWrites inner (text_of texts b) → from (context_in unresolved fs (text_of texts b) outer) ≡ to b.1
   kept-gives [] w inner [] b outer like declared none = absurd like
   kept-gives [] w inner (f ∷ fs) b outer like declared none =
-      ap (λ (o : Option Bool). context_in unresolved fs (text_of texts b) (given o f.ctxt unresolved outer)) (like.0.states.written b declared)
-      ∙ none-gives inner fs (text_of texts b) f.ctxt like.1 none ∙ sym (like.0.number b declared)
+      ap from (ap (λ (o : Option Bool). context_in unresolved fs (text_of texts b) (given o f.ctxt unresolved outer)) (like.0.states.written b declared)
+      ∙ none-gives inner fs (text_of texts b) f.ctxt like.1 none) ∙ sym (like.0.number b declared)
   kept-gives (v ∷ before) w inner [] b outer like declared none = absurd like
   kept-gives (v ∷ before) w inner (f ∷ fs) b outer like declared none =
       kept-gives before w inner fs b (given (f.states (text_of texts b)) f.ctxt unresolved outer) like.1 declared none
@@ -70,12 +70,12 @@ module _ (unresolved : ℕ) (texts : Texts) (to : ℕ → ℕ) (is_binding : Id 
   split [] name = inl tt
   split (w ∷ ws) name = split-by w ws name (has_context name.1 (w name.0)) refl (split ws name)
 
-  pub gives : (ws : List Scope) (fs : List Frame) (name : Id) → Like texts to is_binding ws fs → IsNotCaptured texts (record { name = name; scopes = ws }) → (NoneDeclares ws name → to name.1 ≡ unresolved)
-      → context_in unresolved fs (text_of texts name) unresolved ≡ to name.1
+  pub gives : (ws : List Scope) (fs : List Frame) (name : Id) → Like texts from to is_binding ws fs → IsNotCaptured texts (record { name = name; scopes = ws }) → (NoneDeclares ws name → to name.1 ≡ from unresolved)
+      → from (context_in unresolved fs (text_of texts name) unresolved) ≡ to name.1
   gives ws fs name like captured free =
       elim (split ws name) [
-        | inl none ↦ none-gives ws fs (text_of texts name) unresolved like (quiet name ws captured [] ws refl none) ∙ sym (free none)
-        | inr s ↦ kept-gives s.outer s.scope s.inner fs name unresolved (subst (λ (zs : List Scope). Like texts to is_binding zs fs) s.are like) s.declared
+        | inl none ↦ ap from (none-gives ws fs (text_of texts name) unresolved like (quiet name ws captured [] ws refl none)) ∙ sym (free none)
+        | inr s ↦ kept-gives s.outer s.scope s.inner fs name unresolved (subst (λ (zs : List Scope). Like texts from to is_binding zs fs) s.are like) s.declared
             (quiet name ws captured (s.outer ++ s.scope ∷ []) s.inner (s.are ∙ sym (append_assoc s.outer (s.scope ∷ []) s.inner)) s.none)
       ]
 

@@ -12,6 +12,7 @@ pub mod Alike
 pub mod Finding
 pub mod Shorthands
 pub mod Reading
+pub mod TwoMaps
 pub mod ReadingAgain
 pub mod StayingApart
 pub mod Sameness
@@ -27,8 +28,9 @@ pub mod Owning
 pub mod Keeping
 pub mod Settling
 pub mod OwnScopes
+pub mod Reached
 pub mod ResolvedRight
-pub mod ResolvedStays
+pub mod Uncaptured
 pub mod Sorting
 pub mod ResolvedModules
 pub mod Numbers
@@ -36,3 +38,5 @@ pub mod Mapping
 pub mod Seeing
 pub mod NamingAgain
 pub mod ResolvedApart
+pub mod Collapsing
+pub mod WrittenStays

@@ -9,12 +9,12 @@ use Rattle.ecma_hygiene.specs.Ids.{Id, has_context, innermost, own_ids, same_id}
 use Rattle.ecma_hygiene.specs.Laws.{is_seen}
 use Rattle.ecma_hygiene.specs.Sights.{own_scope, sights}
 use Rattle.ecma_hygiene.proofs.Telling.{has-id, or-first, or-second, true-false}
-use Rattle.ecma_hygiene_scopes.specs.Apart.{AreApart, IsContext, IsMap, IsScoped, TellsScopesApart, own_contexts}
+use Rattle.ecma_hygiene_scopes.specs.Apart.{AreApart, HasOneContext, IsContext, IsMap, IsScoped, TellsScopesApart, own_contexts}
 use Rattle.ecma_hygiene_scopes.specs.Stops.{IsRight, Stop, stops}
 use Rattle.ecma_hygiene_scopes.proofs.Membership.{contexts-agree, id-same}
 use Rattle.ecma_hygiene_scopes.proofs.Numbers.{Differ, Given, IsGiven, NumbersApart, number, opened, tree-numbers}
 
-abbrev has : ℕ → Stop → Bool
+abbrev pub has : ℕ → Stop → Bool
 has ctxt stop = has_context ctxt (own_contexts stop)
 
 -- what declares in a context, opens a scope
@@ -84,15 +84,15 @@ module _ (top : ℕ) where
       by false here h found rec = rec h (ap (λ (b : Bool). cond b (Some (number top x)) (look_up xs ctxt)) (sym here) ∙ found)
 
   -- so two contexts of scopes that have one number are one
-  same-found : (free : ℕ) (ss : List Stop) → NumbersApart top ss → All (IsScoped free) ss → (c d : ℕ) → list_any (has c) ss ≡ true → list_any (has d) ss ≡ true → look_up ss c ≡ look_up ss d → c ≡ d
-  same-found free [] apart scoped c d hc hd same = absurd (true-false hc refl)
-  same-found free (s ∷ ss) apart scoped c d hc hd same =
-      by (has c s) (has d s) refl refl hc hd same (same-found free ss apart.1 (All-tail (IsScoped free) s ss scoped) c d)
+  same-found : (ss : List Stop) → NumbersApart top ss → All HasOneContext ss → (c d : ℕ) → list_any (has c) ss ≡ true → list_any (has d) ss ≡ true → look_up ss c ≡ look_up ss d → c ≡ d
+  same-found [] apart one c d hc hd same = absurd (true-false hc refl)
+  same-found (s ∷ ss) apart one c d hc hd same =
+      by (has c s) (has d s) refl refl hc hd same (same-found ss apart.1 (All-tail HasOneContext s ss one) c d)
     where
       by : (x y : Bool) → has c s ≡ x → has d s ≡ y → (x || list_any (has c) ss) ≡ true → (y || list_any (has d) ss) ≡ true
           → cond (has c s) (Some (number top s)) (look_up ss c) ≡ cond (has d s) (Some (number top s)) (look_up ss d)
           → (list_any (has c) ss ≡ true → list_any (has d) ss ≡ true → look_up ss c ≡ look_up ss d → c ≡ d) → c ≡ d
-      by true true x y hc hd same rec = (All-head (IsScoped free) s ss scoped).one c d x y
+      by true true x y hc hd same rec = All-head HasOneContext s ss one c d x y
       by true false x y hc hd same rec =
           absurd (found-differs s ss d (has-opened c s x) apart.0 hd
           (sym (ap (λ (b : Bool). cond b (Some (number top s)) (look_up ss d)) y) ∙ sym same ∙ ap (λ (b : Bool). cond b (Some (number top s)) (look_up ss c)) x))
@@ -148,7 +148,7 @@ module _ (unresolved top free left : ℕ) (tree : Node) (scopes : TellsScopesApa
   to-found : (ctxt n : ℕ) → look_up top all ctxt ≡ Some n → to ctxt ≡ n
   to-found ctxt n is = ap (λ (o : Option ℕ). unwrap_or o (cond (nat_eq ctxt free) unresolved (cond (nat_eq ctxt 0) 0 (ctxt + more)))) is
 
-  right-at : (stop : Stop) → IsScoped free stop → ((ctxt : ℕ) → has ctxt stop ≡ true → look_up top all ctxt ≡ Some (number top stop)) → IsRight unresolved top to stop
+  right-at : (stop : Stop) → IsScoped free stop → ((ctxt : ℕ) → has ctxt stop ≡ true → look_up top all ctxt ≡ Some (number top stop)) → IsRight unresolved top (λ ctxt. ctxt) to stop
   right-at stop scoped found = record {
     absent = scoped.absent;
     names = scoped.names;
@@ -231,7 +231,7 @@ module _ (unresolved top free left : ℕ) (tree : Node) (scopes : TellsScopesApa
 
     one-class : (c d : ℕ) → Class c → Class d → to c ≡ to d → c ≡ d
     one-class c d (of_scope n in_c is r) (of_scope m in_d also q) same =
-        same-found top free all given.apart scopes.scoped c d in_c in_d (is ∙ ap (λ (n : ℕ). Some n) (sym (to-found c n is) ∙ same ∙ to-found d m also) ∙ sym also)
+        same-found top all given.apart scopes.one c d in_c in_d (is ∙ ap (λ (n : ℕ). Some n) (sym (to-found c n is) ∙ same ∙ to-found d m also) ∙ sym also)
     one-class c d (of_scope n in_c is r) (of_free also) same = absurd (free-apart n r (sym (sym (to-found c n is) ∙ same ∙ to-freed d also)))
     one-class c d (of_scope n in_c is r) (of_none also) same = absurd (found-inner n r (sym (to-found c n is) ∙ same ∙ to-noned d also))
     one-class c d (of_scope n in_c is r) (of_other also) same = absurd (beyond n d r (sym (to-found c n is) ∙ same ∙ also))

@@ -306,3 +306,13 @@ module _ (unresolved top : ℕ) where
 
     pub own-keeps : Keeps (own_scope r scopes n) f
     own-keeps = record { written = written; number = number; only = only }
+
+    -- it declares each text in one context
+    pub once : (text : List ℕ) (c d : ℕ) → has_context c (own_scope r scopes n text) ≡ true → has_context d (own_scope r scopes n text) ≡ true → c ≡ d
+    once text c d h k = number (text, c) h ∙ sym (number (text, d) k)
+
+    -- and the body of a function none that a parameter has
+    pub none-of-parameters : is_body_block r (out-Node n).kind ≡ true → (text : List ℕ) (c d : ℕ) → has_context c (innermost scopes text) ≡ true → has_context d (own_scope r scopes n text) ≡ true → ⊥
+    none-of-parameters block text c d has mine =
+        true-false (kept-declared (names r around m) text (kept-stated (names r around m) text (written (text, d) mine)))
+        (parameter-none (block-here block) (body-role (out-Node n).kind block) text (stated-some (around text) (inner-written scopes frames keep (text, c) has)))

@@ -9,7 +9,7 @@ use Rattle.ecma_scope.specs.Resolved.{contexts, resolved}
 use Rattle.ecma_scope.specs.Scopes.{opens}
 use Rattle.ecma_hygiene.specs.Ids.{Id, has_context, innermost, own_ids, same_id}
 use Rattle.ecma_hygiene.proofs.Telling.{has-id, id-refl, or-first, or-second, true-false}
-use Rattle.ecma_hygiene_scopes.specs.Apart.{AreApart, IsScoped, own_contexts}
+use Rattle.ecma_hygiene_scopes.specs.Apart.{AreApart, HasOneContext, IsScoped, own_contexts}
 use Rattle.ecma_hygiene_scopes.specs.Laws.{ResolvedTellsScopesApart, ResolvedKeepsScopesApart}
 use Rattle.ecma_hygiene_scopes.specs.DeclaredIds.{DeclaredId, scope_ids}
 use Rattle.ecma_hygiene_scopes.specs.Lasting.{KeepsScope}
@@ -17,9 +17,8 @@ use Rattle.ecma_hygiene_scopes.specs.Stops.{Stop, stops}
 use Rattle.ecma_hygiene_scopes.proofs.Mapping.{has-opened}
 use Rattle.ecma_hygiene_scopes.proofs.Membership.{contexts-agree}
 use Rattle.ecma_hygiene_scopes.proofs.Numbers.{Differ, Given, IsGiven, NumbersApart, number, opened, tree-numbers}
-use Rattle.ecma_hygiene_scopes.proofs.ResolvedModules.{checked, resolved-is-placed}
+use Rattle.ecma_hygiene_scopes.proofs.ResolvedModules.{checked, resolved-is-placed, resolved-stays}
 use Rattle.ecma_hygiene_scopes.proofs.ResolvedRight.{IsPlaced}
-use Rattle.ecma_hygiene_scopes.proofs.ResolvedStays.{resolved-stays}
 use Rattle.ecma_hygiene_scopes.proofs.Sameness.{counts-resolved}
 
 -- an id with a context among these
@@ -42,6 +41,9 @@ module _ (unresolved top : ℕ) where
       let ids : List Id = own_ids stop.around.role (innermost stop.around.scopes) stop.node in
       let one = context-id c ids (sym (ap (λ (b : Bool). has_context c (cond b (map (λ id. id.1) ids) [])) is) ∙ h) in
       sym one.1 ∙ right.contexts is one.0 (contexts-agree one.0 ids ∙ one.2)
+
+  one-number : (stop : Stop) → Right stop → HasOneContext stop
+  one-number stop right c d h k = own-number stop right c h ∙ sym (own-number stop right d k)
 
   by-test : (b : Bool) → (b ≡ true → ⊥) → b ≡ false
   by-test true never = absurd (never refl)
@@ -67,11 +69,11 @@ module _ (unresolved top : ℕ) where
   above-no n l u le less same = omega arith
 
   module _ (left : ℕ) (unresolved_above : left < unresolved) (top_above : left < top) (apart : unresolved ≢ top) where
-    no-number : (stop : Stop) → (number top stop ≡ top) ⊎ ((0 < number top stop) × (number top stop ≤ left)) → unresolved ≡ number top stop → ⊥
+    pub no-number : (stop : Stop) → (number top stop ≡ top) ⊎ ((0 < number top stop) × (number top stop ≤ left)) → unresolved ≡ number top stop → ⊥
     no-number stop (inl is) same = apart (same ∙ is)
     no-number stop (inr le) same = above-no (number top stop) left unresolved le.1 unresolved_above same
 
-    no-empty : (stop : Stop) → (number top stop ≡ top) ⊎ ((0 < number top stop) × (number top stop ≤ left)) → 0 ≡ number top stop → ⊥
+    pub no-empty : (stop : Stop) → (number top stop ≡ top) ⊎ ((0 < number top stop) × (number top stop ≤ left)) → 0 ≡ number top stop → ⊥
     no-empty stop (inl is) same = above-no 0 left top (omega arith) top_above (sym (same ∙ is))
     no-empty stop (inr le) same = less-no 0 (number top stop) le.0 (sym same)
 
@@ -82,7 +84,6 @@ module _ (unresolved top : ℕ) where
       free_names = right.free;
       blocks = right.blocks;
       parameters = right.parameters;
-      one = λ c d h k. own-number stop right c h ∙ sym (own-number stop right d k);
       not_free = by-test (has_context unresolved (own_contexts stop)) (λ h. no-number stop (given (has-opened unresolved stop h)) (own-number stop right unresolved h));
       not_empty = by-test (has_context 0 (own_contexts stop)) (λ h. no-empty stop (given (has-opened 0 stop h)) (own-number stop right 0 h));
     }
@@ -95,6 +96,7 @@ resolved-keeps-apart unresolved top left source checked_source unresolved_above 
     let numbers : Given top left (stops left tree) = tree-numbers top tree left top_above (subst (λ (n : ℕ). n ≤ left) (sym counts) enough) in
     record {
       scoped = λ k d lt. scoped unresolved top left unresolved_above top_above apart (get_or (stops left tree) k d) (right k d lt) (numbers.given k d lt);
+      one = λ k d lt. one-number unresolved top (get_or (stops left tree) k d) (right k d lt);
       apart = are-apart unresolved top (stops left tree) right numbers.apart;
       there = λ same. above-no unresolved top 0 left unresolved (omega arith) unresolved_above same;
     }
@@ -106,7 +108,6 @@ kept-scoped free stop keep stay = record {
   names = keep.names;
   free_names = keep.free_names;
   declares = λ is. record { stay = stay is; blocks = keep.blocks is; parameters = keep.parameters is };
-  one = keep.one;
   not_free = keep.not_free;
   not_empty = keep.not_empty;
 }
@@ -114,6 +115,6 @@ kept-scoped free stop keep stay = record {
 pub resolved-tells-apart : ResolvedTellsScopesApart
 resolved-tells-apart unresolved top left source plain unresolved_above top_above apart enough =
     let kept = resolved-keeps-apart unresolved top left source (checked source plain) unresolved_above top_above apart enough in
-    let stay = resolved-stays unresolved top left source plain.kept in
+    let stay = resolved-stays unresolved top left source plain in
     let tree : Node = resolved unresolved top left source in
-    record { scoped = λ k d lt. kept-scoped unresolved (get_or (stops left tree) k d) (kept.scoped k d lt) (stay k d lt); apart = kept.apart; there = kept.there }
+    record { scoped = λ k d lt. kept-scoped unresolved (get_or (stops left tree) k d) (kept.scoped k d lt) (stay k d lt); one = kept.one; apart = kept.apart; there = kept.there }

@@ -1,4 +1,4 @@
--- A resolved module with final texts, read again without contexts and resolved, is that module.
+-- Resolved modules: what their scopes declare, and what they are with final texts, read again without contexts and resolved.
 use Rattle.std.proofs.Common.{◌≡◌, ℕ, suc, ◌≤◌, Bool, true, List, [], ◌∷◌, map, refl, sym, ap, ◌∙◌, subst}
 use Rattle.std.specs.List.{All}
 use Rattle.std.proofs.lemmas.List.Elements.{All-append, All-cons, All-nil}
@@ -13,7 +13,8 @@ use Rattle.ecma_scope.specs.declared.role.Role.{Role}
 use Rattle.ecma_scope.specs.declared.role.Role.TheVariants as role
 use Rattle.ecma_scope.specs.Laws.{without_contexts}
 use Rattle.ecma_scope.specs.Resolved.{contexts, is_name, resolved}
-use Rattle.ecma_scope.specs.Scopes.{role_in}
+use Rattle.ecma_scope.specs.Scopes.{opens, role_in}
+use Rattle.ecma_hygiene.specs.Capture.{IsNotCaptured, Placed, placed, placed_here}
 use Rattle.ecma_hygiene.specs.Renamed.{renamed}
 use Rattle.ecma_hygiene.specs.Sights.{nowhere}
 use Rattle.ecma_hygiene.specs.Texts.{text_in}
@@ -21,17 +22,21 @@ use Rattle.ecma_hygiene.specs.Walks.{gathered_from}
 use Rattle.ecma_hygiene.proofs.Walking.{gathered-out}
 use Rattle.ecma_hygiene_scopes.specs.Lasting.{IsCheckedModule}
 use Rattle.ecma_hygiene_scopes.specs.StayingModules.{IsStayingModule}
-use Rattle.ecma_hygiene_scopes.specs.Laws.{ResolvedFollowsItsTexts, ResolvedIsReadAgain, ResolvedIsRight}
-use Rattle.ecma_hygiene_scopes.specs.Seats.{Seat, seat_here, seats_at}
+use Rattle.ecma_hygiene_scopes.specs.DeclaredIds.{DeclaredId, scope_ids}
+use Rattle.ecma_hygiene_scopes.specs.Laws.{ResolvedCapturesNothing, ResolvedDeclaresEachOnce, ResolvedFollowsItsTexts, ResolvedIsReadAgain, ResolvedIsRight}
+use Rattle.ecma_hygiene_scopes.specs.Once.{DeclaresEachOnce}
+use Rattle.ecma_hygiene_scopes.specs.Seats.{NothingGoes, Seat, seat_here, seats_at}
 use Rattle.ecma_hygiene_scopes.proofs.Goodness.{Fits}
 use Rattle.ecma_hygiene_scopes.proofs.Parts.{children-of, kind-of}
 use Rattle.ecma_hygiene_scopes.proofs.ReadingAgain.{follows-its-texts, is-read-again}
-use Rattle.ecma_hygiene_scopes.specs.Stops.{stops}
-use Rattle.ecma_hygiene_scopes.proofs.ResolvedRight.{IsPlaced, rights}
-use Rattle.ecma_hygiene_scopes.proofs.ResolvedStays.{resolved-stays}
+use Rattle.ecma_hygiene_scopes.specs.Stops.{Stop, stops}
+use Rattle.ecma_hygiene_scopes.proofs.Reached.{Known, kept-here, reached}
+use Rattle.ecma_hygiene_scopes.proofs.ResolvedRight.{IsPlaced, right-here, stays-here}
 use Rattle.ecma_hygiene_scopes.proofs.Settling.{settled-root}
-use Rattle.ecma_hygiene_scopes.proofs.Sameness.{contexts-stay, counts-resolved}
+use Rattle.ecma_hygiene_scopes.proofs.Sameness.{contexts-stay, counts-resolved, no_text}
 use Rattle.ecma_hygiene_scopes.proofs.Sorting.{module-shaped}
+use Rattle.ecma_hygiene_scopes.proofs.Stopping.{gathers}
+use Rattle.ecma_hygiene_scopes.proofs.Uncaptured.{once-here, uncaptured-here}
 
 -- ---- the empty context
 
@@ -101,17 +106,49 @@ fit source checked =
       holder = (shaped k d lt).holder;
     }
 
-pub resolved-is-placed : (unresolved top left : ℕ) (source : Node) → IsCheckedModule source → All (IsPlaced unresolved top) (stops left (resolved unresolved top left source))
-resolved-is-placed unresolved top left source checked = rights unresolved top source nowhere [] left tt settled-root (record { all = fit source checked; clear = checked.clear })
-
 -- a module in which nothing goes is one of these
 pub checked : (source : Node) → IsStayingModule source → IsCheckedModule source
 checked source plain = record { sorted = plain.sorted; bare = plain.bare; clear = plain.clear }
 
+-- what is known of the module itself
+known : (source : Node) → IsCheckedModule source → Known (NothingGoes source) source nowhere []
+known source is = record {
+  keep = tt;
+  settled = settled-root;
+  good = record { all = fit source is; clear = is.clear };
+  kept = λ whole. whole;
+  steady = λ whole. tt;
+}
+
+module _ (unresolved top left : ℕ) (source : Node) where
+  pub resolved-is-placed : IsCheckedModule source → All (IsPlaced unresolved top) (stops left (resolved unresolved top left source))
+  resolved-is-placed is =
+      reached unresolved top (NothingGoes source) (IsPlaced unresolved top) (λ m s frames less here. right-here unresolved top m s frames less here.keep here.settled here.good) source nowhere [] left (known source is)
+
+  module _ (plain : IsStayingModule source) where
+    abbrev Stays : Stop → Type 0
+    Stays stop = opens stop.around.role stop.node ≡ true → All (λ (d : DeclaredId). d.stays ≡ true) (scope_ids stop.around.role stop.node)
+
+    pub resolved-stays : All Stays (stops left (resolved unresolved top left source))
+    resolved-stays =
+        reached unresolved top (NothingGoes source) Stays (λ m s frames less here. stays-here unresolved top m s.role frames less (kept-here unresolved top (NothingGoes source) m s frames less here plain.kept)) source nowhere [] left
+        (known source (checked source plain))
+
+    none-captured : All (IsNotCaptured no_text) (placed (resolved unresolved top left source))
+    none-captured =
+        gathers Placed placed_here (IsNotCaptured no_text) (resolved unresolved top left source) nowhere left
+        (reached unresolved top (NothingGoes source) (λ stop. All (IsNotCaptured no_text) (placed_here stop.around stop.node))
+        (λ m s frames less here. uncaptured-here unresolved top (NothingGoes source) m s frames less here plain.kept) source nowhere [] left (known source (checked source plain)))
+
+    each-once : All (λ (stop : Stop). DeclaresEachOnce stop.node stop.around) (stops left (resolved unresolved top left source))
+    each-once =
+        reached unresolved top (NothingGoes source) (λ stop. DeclaresEachOnce stop.node stop.around) (λ m s frames less here. once-here unresolved top (NothingGoes source) m s frames less here) source nowhere [] left
+        (known source (checked source plain))
+
 pub resolved-is-right : ResolvedIsRight
 resolved-is-right unresolved top left source plain =
     let placed = resolved-is-placed unresolved top left source (checked source plain) in
-    let stay = resolved-stays unresolved top left source plain.kept in
+    let stay = resolved-stays unresolved top left source plain in
     λ k d lt. (let p = placed k d lt in record {
       absent = p.absent;
       names = p.names;
@@ -119,11 +156,18 @@ resolved-is-right unresolved top left source plain =
       declares = λ opened. record { stay = stay k d lt opened; blocks = p.blocks opened; parameters = p.parameters opened; contexts = p.contexts opened };
     })
 
+pub resolved-captures-nothing : ResolvedCapturesNothing
+resolved-captures-nothing unresolved top left source plain unresolved_above top_above apart enough = none-captured unresolved top left source plain
+
+pub resolved-declares-each-once : ResolvedDeclaresEachOnce
+resolved-declares-each-once unresolved top left source plain unresolved_above top_above apart enough = each-once unresolved top left source plain
+
 pub resolved-is-read-again : ResolvedIsReadAgain
 resolved-is-read-again unresolved top left source written plain hygienic =
     let tree : Node = resolved unresolved top left source in
     ap (λ (z : Node). resolved unresolved top left (without_contexts z)) hygienic.is
-    ∙ is-read-again unresolved top left (λ ctxt. ctxt) tree hygienic.names hygienic.texts refl (resolved-is-right unresolved top left source plain)
+    ∙ sym (contexts-stay (resolved unresolved top left (without_contexts (renamed (text_in hygienic.names) tree))))
+    ∙ is-read-again unresolved top left (λ ctxt. ctxt) (λ ctxt. ctxt) tree hygienic.names hygienic.texts refl (resolved-is-right unresolved top left source plain)
     ∙ contexts-stay (renamed (text_in hygienic.names) tree) ∙ sym hygienic.is
 
 pub resolved-follows-its-texts : ResolvedFollowsItsTexts

@@ -64,7 +64,7 @@ layer-stays n children stands =
     ∙ (λ j. node_of (out-Node n).span (same-kind (is_name stands.role) (out-Node n).kind j) (children (standing_in stands n) 0 j))
     ∙ roll-out-Node n
 
-stays : (n : Node) → Stays n
+pub stays : (n : Node) → Stays n
 stays = ind-Node Stays (λ x y is.
     layer-stays (roll-Node x) (subst AllStay (ap (λ (z : Node-F Node). z.children) is ∙ sym (ap (λ (z : Node-F Node). z.children) (out-roll-Node x))) (all-stay y.children)))
 

@@ -66,6 +66,34 @@ module _ (A : Type 0) (here : Around → Node → List A) (P : A → Type 0) whe
   inside = ind-Node Inside (λ x y is.
       layer-inside (roll-Node x) (subst InsideBelow (ap (λ (z : Node-F Node). z.children) is ∙ sym (ap (λ (z : Node-F Node). z.children) (out-roll-Node x))) (inside-below y.children)))
 
+  -- and what each stop gives is all that is gathered
+  abbrev pub Gives : Stop → Type 0
+  Gives stop = All P (here stop.around stop.node)
+
+  abbrev Gathers : Node → Type 0
+  Gathers n = (s : Around) (left : ℕ) → All Gives (stops_at n s left) → All P (gathered n s)
+
+  abbrev AllGather : List Node → Type 0
+  AllGather ns = (around : ℕ → Around) (i left : ℕ) → All Gives (stops_from around i ns (map stops_at ns) left) → All P (gathered_from Around A around i (map gathered ns))
+
+  all-gather : (ns : List ((n : Node) × Gathers n)) → AllGather (map (λ e. e.0) ns)
+  all-gather [] around i left h = All-nil P
+  all-gather (x ∷ xs) around i left h =
+      let less : ℕ = left - context_count x.0 (around i).role in
+      let rest : List Stop = stops_from around (suc i) (map (λ e. e.0) xs) (map stops_at (map (λ e. e.0) xs)) less in
+      All-append P (gathered x.0 (around i)) (gathered_from Around A around (suc i) (map gathered (map (λ e. e.0) xs)))
+      (x.1 (around i) left (All-first Gives (stops_at x.0 (around i) left) rest h)) (all-gather xs around (suc i) less (All-second Gives (stops_at x.0 (around i) left) rest h))
+
+  layer-gathers : (n : Node) → AllGather (out-Node n).children → Gathers n
+  layer-gathers n children s left h =
+      subst (All P) (sym (gathered-out Around A here around_child n s))
+      (All-append P (here s n) (gathered_from Around A (around_child s n) 0 (map gathered (out-Node n).children))
+      (stop-here Gives n s left h) (children (around_child s n) 0 (left - taken s.role n) (stops-below Gives n s left h)))
+
+  pub gathers : (n : Node) → Gathers n
+  gathers = ind-Node Gathers (λ x y is.
+      layer-gathers (roll-Node x) (subst AllGather (ap (λ (z : Node-F Node). z.children) is ∙ sym (ap (λ (z : Node-F Node). z.children) (out-roll-Node x))) (all-gather y.children)))
+
 -- what is found among these is found among all
 module _ {X : Type 0} (all : List X) where
   abbrev pub IsAmong : X → Type 0

@@ -31,19 +31,23 @@ pub record DeclaresCleanly (stop : Stop) : Type 0 where
   pub parameters : is_body_block stop.around.role (out-Node stop.node).kind ≡ true
       → All (λ (d : DeclaredId). has_context d.id.1 (innermost stop.around.scopes d.id.0) ≡ true → is_hoisted d.form ≡ true) (scope_ids stop.around.role stop.node)
 
--- a node of such a tree, in which free names have this context; a scope declares its ids in one context, which is not that of free names, and not the empty one
+-- the scope of a node declares its ids in one context
+abbrev pub HasOneContext : Stop → Type 0
+HasOneContext stop = (c d : ℕ) → has_context c (own_contexts stop) ≡ true → has_context d (own_contexts stop) ≡ true → c ≡ d
+
+-- a node of a tree whose ids say which scopes declare its names, in which free names have this context; a scope declares no id in that of free names, and none in the empty one
 pub record IsScoped (free : ℕ) (stop : Stop) : Type 0 where
   pub absent : kind_is_absent stop.node ≡ true → (out-Node stop.node).children ≡ []
   pub names : (sym : List ℕ) (ctxt : ℕ) (optional : Bool) → (out-Node stop.node).kind ≡ kind.Ident sym ctxt optional → is_name stop.around.role ≡ true → ctxt ≡ 0
   pub free_names : (sym : List ℕ) (ctxt : ℕ) (optional : Bool) → (out-Node stop.node).kind ≡ kind.Ident sym ctxt optional → is_name stop.around.role ≡ false
       → NoneDeclares stop.around.scopes (sym, ctxt) → ctxt ≡ free
   pub declares : opens stop.around.role stop.node ≡ true → DeclaresCleanly stop
-  pub one : (c d : ℕ) → has_context c (own_contexts stop) ≡ true → has_context d (own_contexts stop) ≡ true → c ≡ d
   pub not_free : has_context free (own_contexts stop) ≡ false
   pub not_empty : has_context 0 (own_contexts stop) ≡ false
 
 pub record TellsScopesApart (free left : ℕ) (tree : Node) : Type 0 where
   pub scoped : All (IsScoped free) (stops left tree)
+  pub one : All HasOneContext (stops left tree)
   pub apart : AreApart (map own_contexts (stops left tree))
   pub there : free ≢ 0
 
@@ -54,7 +58,7 @@ IsContext free left tree ctxt = (ctxt ≡ free) ⊎ (list_any (λ stop. has_cont
 -- a map of contexts with which the ids of a tree are right, one to one; it takes none of those of identifiers to the empty one
 pub record IsMap (unresolved top free left : ℕ) (tree : Node) (to : ℕ → ℕ) : Type 0 where
   pub none : to 0 ≡ 0
-  pub right : All (IsRight unresolved top to) (stops left tree)
+  pub right : All (IsRight unresolved top (λ ctxt. ctxt) to) (stops left tree)
   pub one_to_one : (c d : ℕ) → to c ≡ to d → c ≡ d
   pub free_names : to free ≡ unresolved
   pub inner : (c : ℕ) → IsContext free left tree c → to c ≢ 0

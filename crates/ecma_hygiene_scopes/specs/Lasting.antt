@@ -14,7 +14,7 @@ use Rattle.ecma_scope.specs.Scopes.{opens}
 use Rattle.ecma_hygiene.specs.Capture.{NoneDeclares}
 use Rattle.ecma_hygiene.specs.Ids.{has_context, innermost, is_block, is_body_block}
 use Rattle.ecma_hygiene.specs.Renamed.{kind_is_absent}
-use Rattle.ecma_hygiene_scopes.specs.Apart.{AreApart, own_contexts}
+use Rattle.ecma_hygiene_scopes.specs.Apart.{AreApart, HasOneContext, own_contexts}
 use Rattle.ecma_hygiene_scopes.specs.DeclaredIds.{DeclaredId, scope_ids}
 use Rattle.ecma_hygiene_scopes.specs.Stops.{Stop, stops}
 
@@ -27,12 +27,12 @@ pub record KeepsScope (free : ℕ) (stop : Stop) : Type 0 where
   pub blocks : opens stop.around.role stop.node ≡ true → stop.around.role ≡ role.Body → All (λ (d : DeclaredId). is_hoisted d.form ≡ true → is_block (out-Node stop.node).kind ≡ true) (scope_ids stop.around.role stop.node)
   pub parameters : opens stop.around.role stop.node ≡ true → is_body_block stop.around.role (out-Node stop.node).kind ≡ true
       → All (λ (d : DeclaredId). has_context d.id.1 (innermost stop.around.scopes d.id.0) ≡ true → is_hoisted d.form ≡ true) (scope_ids stop.around.role stop.node)
-  pub one : (c d : ℕ) → has_context c (own_contexts stop) ≡ true → has_context d (own_contexts stop) ≡ true → c ≡ d
   pub not_free : has_context free (own_contexts stop) ≡ false
   pub not_empty : has_context 0 (own_contexts stop) ≡ false
 
 pub record KeepsScopesApart (free left : ℕ) (tree : Node) : Type 0 where
   pub scoped : All (KeepsScope free) (stops left tree)
+  pub one : All HasOneContext (stops left tree)
   pub apart : AreApart (map own_contexts (stops left tree))
   pub there : free ≢ 0
 

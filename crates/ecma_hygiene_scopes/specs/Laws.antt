@@ -1,8 +1,7 @@
 -- The tree with final texts, read by its texts alone: its scopes, its contexts, and what it is when it is read again.
-use Rattle.std.specs.Prelude.{◌≡◌, ℕ, List, ◌≢◌, ◌<◌, ◌≤◌}
+use Rattle.std.specs.Prelude.{◌≡◌, ℕ, List, None, ◌≢◌, ◌<◌, ◌≤◌}
 use Rattle.std.specs.List.{All}
 use Rattle.ecma_tree.specs.declared.node.Node.{Node}
-use Rattle.ecma_scope.specs.Declarations.{names}
 use Rattle.ecma_scope.specs.Laws.{without_contexts}
 use Rattle.ecma_hygiene.specs.declared.spot.Standing.{Standing}
 use Rattle.ecma_hygiene.specs.Renamed.{Texts, renamed}
@@ -12,10 +11,14 @@ use Rattle.ecma_scope.specs.Resolved.{contexts, resolved}
 use Rattle.ecma_hygiene.specs.declared.naming.Named.{Named}
 use Rattle.ecma_hygiene.specs.Texts.{HygienicTexts, text_in}
 use Rattle.ecma_hygiene.specs.Hygienic.{IsHygienic}
-use Rattle.ecma_hygiene_scopes.specs.Stops.{IsRight, stops}
-use Rattle.ecma_hygiene_scopes.specs.Apart.{TellsScopesApart, IsMap}
+use Rattle.ecma_hygiene_scopes.specs.Stops.{IsRight, Stop, stops}
+use Rattle.ecma_hygiene_scopes.specs.Apart.{IsScoped, TellsScopesApart, IsMap}
 use Rattle.ecma_hygiene_scopes.specs.StayingModules.{IsStayingModule}
 use Rattle.ecma_hygiene_scopes.specs.FinalTexts.{DeclaresFinalTexts}
+use Rattle.ecma_hygiene_scopes.specs.Collapsed.{collapsed}
+use Rattle.ecma_hygiene_scopes.specs.Once.{DeclaresEachOnce}
+use Rattle.ecma_hygiene_scopes.specs.Seats.{NothingGoes}
+use Rattle.ecma_hygiene.specs.Capture.{IsNotCaptured, placed}
 use Rattle.ecma_hygiene_scopes.specs.ApartTexts.{StayApart}
 use Rattle.ecma_hygiene_scopes.specs.Lasting.{KeepsScopesApart, IsCheckedModule}
 
@@ -23,15 +26,15 @@ use Rattle.ecma_hygiene_scopes.specs.Lasting.{KeepsScopesApart, IsCheckedModule}
 abbrev pub ScopesDeclareFinalTexts : Type 0
 ScopesDeclareFinalTexts = (texts : Texts) (node : Node) (stands : Standing) → DeclaresFinalTexts texts node stands
 
--- the tree with final texts, read again without contexts and resolved, has the ids that it had: where these say which scopes declare its names, with a map of contexts to
--- those that `resolve` gives these scopes
+-- the tree with final texts, read again without contexts and resolved, has the ids that it had, up to two maps of contexts: of those that it had, and of those that `resolve`
+-- gives its scopes. With maps under which all contexts of scopes are one, nothing is asked of contexts but which are free and which empty
 abbrev pub IsReadAgain : Type 0
-IsReadAgain = (unresolved top left : ℕ) (to : ℕ → ℕ) (tree : Node) (names : List Named) → HygienicTexts tree names → to 0 ≡ 0 → All (IsRight unresolved top to) (stops left tree)
-    → resolved unresolved top left (without_contexts (renamed (text_in names) tree)) ≡ with_contexts (λ sym ctxt. to ctxt) (renamed (text_in names) tree)
+IsReadAgain = (unresolved top left : ℕ) (from to : ℕ → ℕ) (tree : Node) (names : List Named) → HygienicTexts tree names → to 0 ≡ from 0 → All (IsRight unresolved top from to) (stops left tree)
+    → with_contexts (λ sym ctxt. from ctxt) (resolved unresolved top left (without_contexts (renamed (text_in names) tree))) ≡ with_contexts (λ sym ctxt. to ctxt) (renamed (text_in names) tree)
 
 -- so its ids say what its texts name, where enough contexts were left, which were neither that of the top nor the unresolved one
 abbrev pub FollowsItsTexts : Type 0
-FollowsItsTexts = (unresolved top left : ℕ) (to : ℕ → ℕ) (tree : Node) (names : List Named) → HygienicTexts tree names → to 0 ≡ 0 → All (IsRight unresolved top to) (stops left tree)
+FollowsItsTexts = (unresolved top left : ℕ) (to : ℕ → ℕ) (tree : Node) (names : List Named) → HygienicTexts tree names → to 0 ≡ 0 → All (IsRight unresolved top (λ ctxt. ctxt) to) (stops left tree)
     → left < unresolved → left < top → unresolved ≢ top → contexts tree ≤ left
     → FollowBindings unresolved (with_contexts (λ sym ctxt. to ctxt) (renamed (text_in names) tree)) (without_contexts (renamed (text_in names) tree))
 
@@ -41,7 +44,7 @@ IdsStayApart = (tree : Node) (names : List Named) → HygienicTexts tree names �
 
 -- the ids of a plain module, once it is resolved, say which scopes declare its names
 abbrev pub ResolvedIsRight : Type 0
-ResolvedIsRight = (unresolved top left : ℕ) (source : Node) → IsStayingModule source → All (IsRight unresolved top (λ ctxt. ctxt)) (stops left (resolved unresolved top left source))
+ResolvedIsRight = (unresolved top left : ℕ) (source : Node) → IsStayingModule source → All (IsRight unresolved top (λ ctxt. ctxt) (λ ctxt. ctxt)) (stops left (resolved unresolved top left source))
 
 -- so with its final texts, read again and resolved with the same contexts, it is the same tree
 abbrev pub ResolvedIsReadAgain : Type 0
@@ -72,3 +75,22 @@ TextsNameWhatIdsDo = (free left : ℕ) (tree : Node) (names : List Named) → Hy
 abbrev pub ResolvedTellsScopesApart : Type 0
 ResolvedTellsScopesApart = (unresolved top left : ℕ) (source : Node) → IsStayingModule source → left < unresolved → left < top → unresolved ≢ top → contexts source ≤ left
     → TellsScopesApart unresolved left (resolved unresolved top left source)
+
+-- the contexts of a tree whose ids say which scopes declare its names are right, whichever scopes share contexts, where those of all scopes are one on both sides, and there are contexts enough
+abbrev pub CollapsedContextsAreRight : Type 0
+CollapsedContextsAreRight = (unresolved top free left : ℕ) (tree : Node) → All (IsScoped free) (stops left tree) → free ≢ 0 → left < unresolved → left < top → unresolved ≢ top → contexts tree ≤ left
+    → All (IsRight unresolved top (collapsed unresolved) (collapsed free)) (stops left tree)
+
+-- no declaration goes of what is written for such a tree
+abbrev pub WrittenModulesStay : Type 0
+WrittenModulesStay = (free left : ℕ) (tree : Node) (names : List Named) → HygienicTexts tree names → All (IsScoped free) (stops left tree) → NothingGoes (without_contexts (renamed (text_in names) tree))
+
+-- in a plain module, once it is resolved, nothing is captured by the texts that it has, where there were contexts enough
+abbrev pub ResolvedCapturesNothing : Type 0
+ResolvedCapturesNothing = (unresolved top left : ℕ) (source : Node) → IsStayingModule source → left < unresolved → left < top → unresolved ≢ top → contexts source ≤ left
+    → All (IsNotCaptured (λ id. None)) (placed (resolved unresolved top left source))
+
+-- and each scope declares each text in one context, and a body none that a parameter has
+abbrev pub ResolvedDeclaresEachOnce : Type 0
+ResolvedDeclaresEachOnce = (unresolved top left : ℕ) (source : Node) → IsStayingModule source → left < unresolved → left < top → unresolved ≢ top → contexts source ≤ left
+    → All (λ (stop : Stop). DeclaresEachOnce stop.node stop.around) (stops left (resolved unresolved top left source))

@@ -2,6 +2,8 @@ pub mod DeclaredIds
 pub mod Stops
 pub mod Seats
 pub mod Apart
+pub mod Once
+pub mod Collapsed
 pub mod Lasting
 pub mod ApartTexts
 pub mod FinalTexts

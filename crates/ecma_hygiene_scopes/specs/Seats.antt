@@ -1,5 +1,5 @@
 -- The nodes of a tree with their roles, and trees in which no declaration goes.
-use Rattle.std.specs.Prelude.{◌≡◌, true, false, not, List, [], ◌∷◌, ◌++◌}
+use Rattle.std.specs.Prelude.{◌≡◌, true, not, List, [], ◌∷◌, ◌++◌}
 use Rattle.std.specs.List.{All}
 use Rattle.ecma_tree.specs.declared.node.Node.{Node}
 use Rattle.ecma_scope.specs.declared.form.Declaration.{Declaration}
@@ -23,9 +23,9 @@ seats_at = gathered_down Role Seat seat_here role_in
 abbrev pub all_names : Role → Node → List Declaration
 all_names r node = declarations node (record { part = own_part r; stays = not (is_ambient r) }) ++ vars_of r (not (is_ambient r)) node
 
--- a scope is not ambient, and nothing that it declares goes
+-- nothing that a scope declares goes
 abbrev pub IsKept : Seat → Type 0
-IsKept seat = opens seat.role seat.node ≡ true → (is_ambient seat.role ≡ false) × All (λ (d : Declaration). d.stays ≡ true) (all_names seat.role seat.node)
+IsKept seat = opens seat.role seat.node ≡ true → All (λ (d : Declaration). d.stays ≡ true) (all_names seat.role seat.node)
 
 abbrev pub NothingGoes : Node → Type 0
 NothingGoes tree = All IsKept (seats_at tree role.Root)

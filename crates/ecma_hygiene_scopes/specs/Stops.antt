@@ -37,18 +37,18 @@ abbrev pub stops : ℕ → Node → List Stop
 stops left tree = stops_at tree nowhere left
 
 -- of what a scope declares, nothing goes; in the body of a function, which is a block where it declares a `var` or a function, only these are
--- what the parameters declare; and each id that it declares has the context that the scope gets
-pub record DeclaresRightly (top : ℕ) (to : ℕ → ℕ) (stop : Stop) : Type 0 where
+-- what the parameters declare; and each id that it declares has the context that the scope gets, up to two maps of contexts: of those that it has, and of those that scopes get
+pub record DeclaresRightly (top : ℕ) (from to : ℕ → ℕ) (stop : Stop) : Type 0 where
   pub stay : All (λ (d : DeclaredId). d.stays ≡ true) (scope_ids stop.around.role stop.node)
   pub blocks : stop.around.role ≡ role.Body → All (λ (d : DeclaredId). is_hoisted d.form ≡ true → is_block (out-Node stop.node).kind ≡ true) (scope_ids stop.around.role stop.node)
   pub parameters : is_body_block stop.around.role (out-Node stop.node).kind ≡ true
       → All (λ (d : DeclaredId). has_context d.id.1 (innermost stop.around.scopes d.id.0) ≡ true → is_hoisted d.form ≡ true) (scope_ids stop.around.role stop.node)
-  pub contexts : (id : Id) → has_context id.1 (own_scope stop.around.role stop.around.scopes stop.node id.0) ≡ true → to id.1 ≡ cond (is_root stop.around.role) top stop.left
+  pub contexts : (id : Id) → has_context id.1 (own_scope stop.around.role stop.around.scopes stop.node id.0) ≡ true → to id.1 ≡ from (cond (is_root stop.around.role) top stop.left)
 
 -- what is not there has no children; what is no name of a variable has the empty context; what no scope around declares is free
-pub record IsRight (unresolved top : ℕ) (to : ℕ → ℕ) (stop : Stop) : Type 0 where
+pub record IsRight (unresolved top : ℕ) (from to : ℕ → ℕ) (stop : Stop) : Type 0 where
   pub absent : kind_is_absent stop.node ≡ true → (out-Node stop.node).children ≡ []
   pub names : (sym : List ℕ) (ctxt : ℕ) (optional : Bool) → (out-Node stop.node).kind ≡ kind.Ident sym ctxt optional → is_name stop.around.role ≡ true → ctxt ≡ 0
   pub free : (sym : List ℕ) (ctxt : ℕ) (optional : Bool) → (out-Node stop.node).kind ≡ kind.Ident sym ctxt optional → is_name stop.around.role ≡ false
-      → NoneDeclares stop.around.scopes (sym, ctxt) → to ctxt ≡ unresolved
-  pub declares : opens stop.around.role stop.node ≡ true → DeclaresRightly top to stop
+      → NoneDeclares stop.around.scopes (sym, ctxt) → to ctxt ≡ from unresolved
+  pub declares : opens stop.around.role stop.node ≡ true → DeclaresRightly top from to stop

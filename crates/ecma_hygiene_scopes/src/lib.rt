@@ -4,7 +4,7 @@
 //! Each function carries one law, and does nothing. The laws are stated in `specs/Laws.antt`.
 #![tactic(auto)]
 
-ghost use Rattle.ecma_hygiene_scopes.specs.Laws.{ContextsAreMapped, FollowsItsTexts, IdsStayApart, IsReadAgain, ResolvedFollowsItsTexts, ResolvedIsReadAgain, ResolvedIsRight, ResolvedKeepsScopesApart, ResolvedTellsScopesApart, ScopesDeclareFinalTexts, TextsNameWhatIdsDo};
+ghost use Rattle.ecma_hygiene_scopes.specs.Laws.{CollapsedContextsAreRight, ContextsAreMapped, FollowsItsTexts, IdsStayApart, IsReadAgain, ResolvedCapturesNothing, ResolvedDeclaresEachOnce, ResolvedFollowsItsTexts, ResolvedIsReadAgain, ResolvedIsRight, ResolvedKeepsScopesApart, ResolvedTellsScopesApart, ScopesDeclareFinalTexts, TextsNameWhatIdsDo, WrittenModulesStay};
 
 /// A node with other texts opens a scope where it did, and that scope declares the final texts of what it declared.
 pub fn scopes_declare_final_texts()
@@ -12,7 +12,7 @@ pub fn scopes_declare_final_texts()
 {}
 
 /// Where the ids of a tree say which scopes declare its names, the tree with its final texts, read again without contexts and
-/// resolved, is that tree with its contexts mapped to those that the scopes get.
+/// resolved, is that tree up to two maps of contexts: of those that it had, and of those that its scopes get.
 pub fn what_is_read_again_has_its_ids()
     ensures { IsReadAgain }
 {}
@@ -65,4 +65,25 @@ pub fn resolved_contexts_tell_scopes_apart()
 /// each, no two in the same, and a name that none of them declares so is free.
 pub fn resolved_modules_keep_their_scopes_apart()
     ensures { ResolvedKeepsScopesApart }
+{}
+
+/// Where the contexts of all scopes are taken for one, the ids of a tree that say which scopes declare its names are right, whichever
+/// scopes share contexts.
+pub fn collapsed_contexts_are_right()
+    ensures { CollapsedContextsAreRight }
+{}
+
+/// Of what is written for such a tree no declaration goes.
+pub fn written_modules_stay()
+    ensures { WrittenModulesStay }
+{}
+
+/// In a resolved module of which no declaration goes, nothing is captured by the texts that it has.
+pub fn resolved_modules_capture_nothing()
+    ensures { ResolvedCapturesNothing }
+{}
+
+/// Each scope of such a module declares each text in one context, and the body of a function none that a parameter has.
+pub fn resolved_modules_declare_each_text_once()
+    ensures { ResolvedDeclaresEachOnce }
 {}

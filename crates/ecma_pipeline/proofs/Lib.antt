@@ -3,6 +3,7 @@ pub mod Fits
 pub mod Runs
 pub mod ReadySources
 pub mod Conflicts
+pub mod Once
 pub mod Sourced
 pub mod Written
 pub mod Whole

@@ -38,10 +38,11 @@ use Rattle.ecma_runs.specs.State.{Id}
 use Rattle.ecma_strip.specs.Stripping.{stripped}
 use Rattle.ecma_pipeline_interface.specs.Laws.{BoundSourcesHaveTheirInterface, WrittenTreesHaveTheirInterface}
 use Rattle.ecma_pipeline_spans.specs.Laws.{BindingMakesNoNames, ContextsMakeNoNames, EnclosingMakesNoNames}
-use Rattle.ecma_ready.specs.Ready.{HasOwnContexts, IsReady}
+use Rattle.ecma_ready.specs.Ready.{DeclaresItsTextsOnce, HasOwnContexts, IsReady}
 use Rattle.ecma_pipeline.specs.Laws.{BoundSourcesAreReady, BoundSourcesRunAlike, ReadyTreesAreWritten, WrittenModulesDoWhatTheirSourcesDo}
 use Rattle.ecma_pipeline.specs.Ways.{DoesWhatItsSourceDoes, IsWrittenFor, LowersToReady, final_text}
 use Rattle.ecma_pipeline.specs.Written.{DoesWhatItsTreeDoes}
+use Rattle.ecma_pipeline.proofs.Once.{texts-once}
 use Rattle.ecma_pipeline.proofs.Sourced.{final_trees_stay}
 
 pub record Laws : Type 0 where
@@ -136,6 +137,9 @@ module _ (laws : Laws) (assign : TsImportExportAssignConfig) (no_empty_export wa
   all_own : HasOwnContexts all
   all_own = laws.marked_own no_empty_export was_module low low_sorted lowerable.own
 
+  all_once : DeclaresItsTextsOnce all
+  all_once = texts-once all all_own
+
   before : marked no_empty_export was_module (stripped low) ≡ stripped all
   before = sym (laws.marked_before_or_after no_empty_export was_module low low_sorted)
 
@@ -151,7 +155,7 @@ module _ (laws : Laws) (assign : TsImportExportAssignConfig) (no_empty_export wa
       (laws.marked_captured no_empty_export was_module unresolved low low_sorted ∙ is.uncaptured) texts.0
 
   result : DoesWhatItsTreeDoes false all final
-  result = laws.written false unresolved all final all_ready all_own hygienic keeps
+  result = laws.written false unresolved all final all_ready all_once hygienic keeps
 
   reading : IsReading final result.written
   reading =

@@ -22,16 +22,19 @@ use Rattle.ecma_round_trip.specs.Laws.{IsReadAgain}
 use Rattle.ecma_round_trip_literals.specs.Laws.{WhatFitsAndIsPlainIsReadAgain}
 use Rattle.ecma_round_trip_literals.specs.Sources.{with_sources}
 use Rattle.ecma_source_texts.specs.Laws.{SourcesDoNotMatterToConflicts, SourcesDoNotMatterToContexts, SourcesDoNotMatterToParentheses, SourcesDoNotMatterToRuns}
-use Rattle.ecma_ready.specs.Ready.{HasOwnContexts, IsReady}
+use Rattle.ecma_ready.specs.Ready.{DeclaresItsTextsOnce, IsReady}
+use Rattle.ecma_fits.specs.Fitting.{Fits}
 use Rattle.ecma_pipeline_plain.specs.Laws.{ReadyTreesArePlain}
 use Rattle.ecma_pipeline_runs.specs.Laws.{PassesKeepRuns}
 use Rattle.ecma_pipeline.specs.Laws.{FinalTreesFit, ReadyTreesAreWritten, WrittenModulesAreNotRedeclared}
+use Rattle.ecma_pipeline.proofs.Conflicts.{FinalModulesAreNotRedeclared}
 
 pub record Laws : Type 0 where
   pub fit : FinalTreesFit
   pub plain : ReadyTreesArePlain
   pub again : WhatFitsAndIsPlainIsReadAgain
   pub distinct : WrittenModulesAreNotRedeclared
+  pub clear : FinalModulesAreNotRedeclared
   pub runs : PassesKeepRuns
   pub spans : SpansDoNotMatterToContexts
   pub span_conflicts : SpansDoNotMatterToConflicts
@@ -40,14 +43,17 @@ pub record Laws : Type 0 where
   pub conflicts : SourcesDoNotMatterToConflicts
   pub source_runs : SourcesDoNotMatterToRuns
 
-module _ (laws : Laws) (assignments : Bool) (free : ℕ) (tree final : Node) (is : IsReady assignments free tree) (own : HasOwnContexts tree) (hygienic : IsHygienic (stripped tree) final)
+module _ (laws : Laws) (assignments : Bool) (free : ℕ) (tree final : Node) (is : IsReady assignments free tree) (once : DeclaresItsTextsOnce tree) (hygienic : IsHygienic (stripped tree) final)
     (exported : KeepsExportedTexts (text_of (text_in hygienic.names)) (stripped tree)) where
   -- what would be read, were it not for the source texts of literals
   abbrev whole : Node
   whole = explicit (without_contexts final)
 
+  fits : Fits final
+  fits = laws.fit assignments free tree final is hygienic
+
   made : (again : Node) × IsPlainModule assignments (layout final) again × IsReadAgain (with_sources final) again
-  made = laws.again assignments final (laws.fit assignments free tree final is hygienic) (laws.plain assignments free tree final is hygienic)
+  made = laws.again assignments final fits (laws.plain assignments free tree final is hygienic)
 
   abbrev written : Node
   written = made.0
@@ -56,7 +62,7 @@ module _ (laws : Laws) (assignments : Bool) (free : ℕ) (tree final : Node) (is
   reading = made.2 ∙ ap without_spans (laws.parentheses final)
 
   none_again : redeclared written ≡ []
-  none_again = laws.span_conflicts written (with_sources whole) reading ∙ laws.conflicts whole ∙ laws.distinct assignments free tree final whole is own hygienic refl
+  none_again = laws.span_conflicts written (with_sources whole) reading ∙ laws.conflicts whole ∙ laws.distinct assignments free tree final whole is hygienic refl
 
   module _ (unresolved top left : ℕ) (given : AreGiven unresolved top left written) where
     given_whole : AreGiven unresolved top left whole
@@ -74,15 +80,15 @@ module _ (laws : Laws) (assignments : Bool) (free : ℕ) (tree final : Node) (is
         ∙ without_spans_kept turns options (resolved unresolved top left (with_sources whole)) script
         ∙ ap (λ n. observe turns options n script) ((laws.contexts whole).same unresolved top left)
         ∙ laws.source_runs turns options (resolved unresolved top left whole) script
-        ∙ laws.runs assignments free tree final whole is own hygienic exported refl unresolved top left given_whole turns options script
+        ∙ laws.runs assignments free tree final whole is once hygienic fits (laws.clear assignments free tree final is hygienic) exported refl unresolved top left given_whole turns options script
 
 pub trees_are_written : Laws → ReadyTreesAreWritten
-trees_are_written laws assignments free tree final is own hygienic exported =
-    let again = made laws assignments free tree final is own hygienic exported in
+trees_are_written laws assignments free tree final is once hygienic exported =
+    let again = made laws assignments free tree final is once hygienic exported in
     record {
       written = again.0;
       plain = again.1;
       again = again.2;
-      distinct = none_again laws assignments free tree final is own hygienic exported;
-      runs = λ unresolved top left given. runs_alike laws assignments free tree final is own hygienic exported unresolved top left given;
+      distinct = none_again laws assignments free tree final is once hygienic exported;
+      runs = λ unresolved top left given. runs_alike laws assignments free tree final is once hygienic exported unresolved top left given;
     }

@@ -22,7 +22,7 @@ use Rattle.ecma_hygiene_runs.specs.Exports.{KeepsExportedTexts}
 use Rattle.ecma_scope.specs.Conflicts.{redeclared}
 use Rattle.ecma_sources.specs.Sources.{IsReading}
 use Rattle.ecma_config.specs.declared.config.Config.{Config}
-use Rattle.ecma_ready.specs.Ready.{HasOwnContexts, IsReady}
+use Rattle.ecma_ready.specs.Ready.{DeclaresItsTextsOnce, IsReady}
 use Rattle.ecma_runs.specs.declared.script.Script.{Script}
 use Rattle.ecma_runs.specs.Observation.{observe}
 use Rattle.ecma_pipeline.specs.Ways.{IsConvertedTo, IsWrittenFor, LowersToReady, DoesWhatItsSourceDoes, final_text}
@@ -57,14 +57,13 @@ FinalTreesFit = (assignments : Bool) (free : ℕ) (tree final : Node) → IsRead
 -- what is read of the written module declares no name again where it may not be
 abbrev pub WrittenModulesAreNotRedeclared : Type 0
 WrittenModulesAreNotRedeclared =
-    (assignments : Bool) (free : ℕ) (tree final written : Node) → IsReady assignments free tree → HasOwnContexts tree → IsHygienic (stripped tree) final → IsReading final written
-    → redeclared written ≡ []
+    (assignments : Bool) (free : ℕ) (tree final written : Node) → IsReady assignments free tree → IsHygienic (stripped tree) final → IsReading final written → redeclared written ≡ []
 
--- so what is written for a tree that is ready, whose exported declarations keep their texts, and whose scopes have contexts of their own, does what the tree does, whether or
--- not its literals have source texts
+-- so what is written for a tree that is ready, whose exported declarations keep their texts, and whose scopes declare each text once but for names that were made, does what the tree
+-- does, whether or not its literals have source texts, and whichever scopes share contexts
 abbrev pub ReadyTreesAreWritten : Type 0
 ReadyTreesAreWritten =
-    (assignments : Bool) (free : ℕ) (tree final : Node) → IsReady assignments free tree → HasOwnContexts tree → (is : IsHygienic (stripped tree) final)
+    (assignments : Bool) (free : ℕ) (tree final : Node) → IsReady assignments free tree → DeclaresItsTextsOnce tree → (is : IsHygienic (stripped tree) final)
     → KeepsExportedTexts (text_of (text_in is.names)) (stripped tree) → DoesWhatItsTreeDoes assignments tree final
 
 -- a module with bound names, resolved, is observed to do what the resolved module does

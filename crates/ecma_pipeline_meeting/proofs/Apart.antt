@@ -15,7 +15,7 @@ use Rattle.ecma_hygiene.specs.Ids.{Id as HygieneId, Scope, has_context, innermos
 use Rattle.ecma_hygiene.specs.Laws.{is_seen, meets_binding}
 use Rattle.ecma_hygiene.specs.Renamed.{text_of}
 use Rattle.ecma_hygiene.specs.Sights.{Around, around_child, beside, beside_parameters, hides, meetings, meetings_at, meets, nowhere, own_scope, sight_here, sights, sights_at}
-use Rattle.ecma_hygiene.specs.Texts.{AreTexts, is_bound, text_in}
+use Rattle.ecma_hygiene.specs.Texts.{AreTexts, is_bound, is_new, text_in}
 use Rattle.ecma_hygiene.specs.Walks.{gathered_from}
 use Rattle.ecma_hygiene.proofs.Bound.{nat-turn, own-bound}
 use Rattle.ecma_hygiene.proofs.Telling.{and-both, and-right, has-id, id-refl, id-same, or-first, or-second, text-refl, texts-tell-apart, true-false}
@@ -138,14 +138,15 @@ module _ (seen : List Sight) (met : List Meeting) (names : List Named) (are : Ar
       go true d rec e = refl
       go false d rec e = rec e
 
-  -- two bindings that are two are written as two, where those of one text meet
-  two : (a b : HygieneId) → is_bound seen a ≡ true → is_bound seen b ≡ true → (a ≡ b → ⊥) → (a.0 ≡ b.0 → meets_binding met a b ≡ true) → text_of (text_in names) a ≡ text_of (text_in names) b → ⊥
-  two a b bound also apart meet = texts-tell-apart seen met names a b are (seen-bound a seen bound) also apart (λ old old_too texts. meet texts)
+  -- two bindings that are two are written as two, where those of one text that are not new meet
+  two : (a b : HygieneId) → is_bound seen a ≡ true → is_bound seen b ≡ true → (a ≡ b → ⊥) → (is_new seen a ≡ false → is_new seen b ≡ false → a.0 ≡ b.0 → meets_binding met a b ≡ true)
+      → text_of (text_in names) a ≡ text_of (text_in names) b → ⊥
+  two a b bound also apart meet = texts-tell-apart seen met names a b are (seen-bound a seen bound) also apart meet
 
   own-bound-in : (n : Node) (s : Around) → Inside n s → opens s.role n ≡ true → (id : Id) → declares_id (own_scope s.role s.scopes n) id ≡ true → is_bound seen (id.sym, id.ctxt) ≡ true
   own-bound-in n s inside opened id h = inside.seen_in (λ x. same_id x.id (id.sym, id.ctxt) && x.declares) (own-bound n s (id.sym, id.ctxt) opened h)
 
-  tells-own : (n : Node) (s : Around) → Inside n s → TellsOwnNames (text_in names) (record { around = s; node = n })
+  tells-own : (n : Node) (s : Around) → Inside n s → TellsOwnNames (is_new seen) (text_in names) (record { around = s; node = n })
   tells-own n s inside opened once a b ha hb same = go (same_id (a.sym, a.ctxt) (b.sym, b.ctxt)) refl
     where
       go : (t : Bool) → same_id (a.sym, a.ctxt) (b.sym, b.ctxt) ≡ t → a ≡ b
@@ -153,8 +154,9 @@ module _ (seen : List Sight) (met : List Meeting) (names : List Named) (are : Ar
       go false is =
           absurd (two (a.sym, a.ctxt) (b.sym, b.ctxt) (own-bound-in n s inside opened a ha) (own-bound-in n s inside opened b hb)
           (λ equal. true-false (subst (λ (y : HygieneId). same_id (a.sym, a.ctxt) y ≡ true) equal (id-refl (a.sym, a.ctxt))) is)
-          (λ texts. absurd (true-false
-          (let ctxts : a.ctxt ≡ b.ctxt = once b.sym a.ctxt b.ctxt (ap (λ (t : List ℕ). has_context a.ctxt (own_scope s.role s.scopes n t)) (sym texts) ∙ ha) hb in
+          (λ old old_too texts. absurd (true-false
+          (let ctxts : a.ctxt ≡ b.ctxt = once b.sym a.ctxt b.ctxt (ap (λ (t : List ℕ). has_context a.ctxt (own_scope s.role s.scopes n t)) (sym texts) ∙ ha) hb
+          (ap (λ (t : List ℕ). is_new seen (t, a.ctxt)) (sym texts) ∙ old) old_too in
           subst (λ (y : HygieneId). same_id (a.sym, a.ctxt) y ≡ true) (λ j. (texts j, ctxts j)) (id-refl (a.sym, a.ctxt))) is))
           same)
 
@@ -168,7 +170,7 @@ module _ (seen : List Sight) (met : List Meeting) (names : List Named) (are : Ar
       let more : List Meeting = gathered_from Around Meeting (around_child s n) 0 (map meetings_at (out-Node n).children) in
       two (p.sym, p.ctxt) (b.sym, b.ctxt) (bound-innermost s.scopes inside.bound_in (p.sym, p.ctxt) hp) (own-bound-in n s inside opened b hb)
       (λ equal. own-apart (p.sym, p.ctxt) (b.sym, b.ctxt) (is_body_block s.role (out-Node n).kind) (list_any (is_kept (b.sym, b.ctxt)) (scope_ids s.role n)) (innermost s.scopes) body hp equal (sym own ∙ hb))
-      (λ texts.
+      (λ old old_too texts.
       let met_here : Meeting → Bool = λ m. same_id m.name (p.sym, p.ctxt) && same_id m.binding (b.sym, b.ctxt) in
       let of_all : list_any met_here (cond (opens s.role n && is_body_block s.role (out-Node n).kind) besides []) ≡ true =
       (λ j. list_any met_here (cond (opened j && body j) besides [])) ∙ beside-all (innermost s.scopes) (own_ids s.role (innermost s.scopes) n) (p.sym, p.ctxt) (b.sym, b.ctxt) texts hp there in
@@ -178,8 +180,8 @@ module _ (seen : List Sight) (met : List Meeting) (names : List Named) (are : Ar
       ∙ or-first (list_any met_here (cond (opens s.role n && is_body_block s.role (out-Node n).kind) besides [])) (list_any met_here hiding) of_all)))
       same
 
-  pub all-own : (tree : Node) → Inside tree nowhere → All (TellsOwnNames (text_in names)) (places tree)
-  all-own tree = held Inside (TellsOwnNames (text_in names)) down tells-own tree nowhere
+  pub all-own : (tree : Node) → Inside tree nowhere → All (TellsOwnNames (is_new seen) (text_in names)) (places tree)
+  all-own tree = held Inside (TellsOwnNames (is_new seen) (text_in names)) down tells-own tree nowhere
 
   pub all-parameters : (tree : Node) → Inside tree nowhere → All (TellsParameters (text_in names)) (places tree)
   all-parameters tree = held Inside (TellsParameters (text_in names)) down tells-parameters tree nowhere

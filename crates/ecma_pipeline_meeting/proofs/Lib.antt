@@ -10,4 +10,5 @@ mod Scopes
 mod Standing
 mod Locals
 mod Records
+mod Exporting
 mod Meeting

@@ -1,6 +1,5 @@
--- The variables of a module that exports no value as the default are declared in its scope.
-use Rattle.std.proofs.Common.{◌≡◌, ◌⊎◌, inl, inr, refl, sym, ap, ◌∙◌, subst, ℕ, suc, List, [], ◌∷◌, ◌++◌, map, length, replicate, Option, Some, None, Bool, true, false, cond, ◌||◌, codes}
-use Rattle.std.proofs.lemmas.Bool.{or_parts}
+-- The variables of a module are declared in its scope, but for that of a default export without a name.
+use Rattle.std.proofs.Common.{◌≡◌, ◌≢◌, ◌⊎◌, inl, inr, refl, sym, ap, ◌∙◌, subst, ℕ, suc, List, [], ◌∷◌, ◌++◌, map, length, replicate, Option, Some, None, Bool, true, false, cond, ◌||◌, codes}
 use Rattle.ecma_kind.specs.Sorts.{belongs}
 use Rattle.ecma_kind.specs.declared.kind.Kind.{Kind}
 use Rattle.ecma_kind.specs.declared.kind.Kind.TheVariants as kind
@@ -25,14 +24,13 @@ use Rattle.ecma_hygiene.proofs.Telling.{and-both, or-first, or-second, true-fals
 use Rattle.ecma_hygiene_scopes.specs.DeclaredIds.{DeclaredId, id_here, ids_declared, ids_in, scope_ids}
 use Rattle.ecma_hygiene_scopes.proofs.Membership.{own-agrees}
 use Rattle.ecma_hygiene_runs.specs.Plain.{is_plain, is_plain_kind, plain_by}
-use Rattle.ecma_runs.specs.State.{Binding, Id, default_name}
-use Rattle.ecma_runs.specs.Exports.{Exported, Local, Indirect, Star, local_ids}
+use Rattle.ecma_runs.specs.State.{Binding, Id, default_name, same_id}
 use Rattle.ecma_runs.specs.Environment.{empty, ids_of, import_of, is_among}
 use Rattle.ecma_runs.specs.Meaning.{Meaning}
-use Rattle.ecma_runs.specs.Declarations.{all_exports, all_imported, all_lexicals, all_vars, has_no_effect, imported_as, imported_from}
+use Rattle.ecma_runs.specs.Declarations.{all_imported, all_lexicals, all_vars, has_no_effect, imported_as, imported_from}
 use Rattle.ecma_runs.specs.Evaluation.{meaning, meaning_by, no_effect, role_by}
-use Rattle.ecma_runs.specs.Observation.{exports_in}
 use Rattle.ecma_runs.proofs.Layer.{meaning_out}
+use Rattle.ecma_runs.proofs.Names.{same_id-equal}
 use Rattle.ecma_hygiene_meeting.specs.Records.{declares_id}
 use Rattle.ecma_pipeline_meeting.proofs.Items.{function-value, is_item, item-are}
 use Rattle.ecma_pipeline_meeting.proofs.Parts.{AllPlain, among-append, ids-append, ids-made, kept, kept-append, kept-nil, kept-out, not-false, plain-effect, plain-head, plain-kind, plain-out, plain-tail, sound-out}
@@ -49,27 +47,6 @@ either : (a b : Bool) (A : Type 0) → (a || b) ≡ true → (a ≡ true → A) 
 either true b A h f g = f refl
 either false b A h f g = g h
 
--- ---- exports
-
--- none of them is that of a value as the default
-abbrev NoDefault : List Exported → Type 0
-NoDefault entries = is_among default_name (local_ids entries) ≡ false
-
-local-append : (xs ys : List Exported) → local_ids (xs ++ ys) ≡ local_ids xs ++ local_ids ys
-local-append [] ys = refl
-local-append (Local name id ∷ xs) ys = ap (λ ids. id ∷ ids) (local-append xs ys)
-local-append (Indirect name source imported ∷ xs) ys = local-append xs ys
-local-append (Star ∷ xs) ys = local-append xs ys
-
-neither-default : (xs ys : List Exported) → NoDefault (xs ++ ys) → NoDefault xs × NoDefault ys
-neither-default xs ys h =
-    or_parts (is_among default_name (local_ids xs)) (is_among default_name (local_ids ys))
-    (sym (ap (is_among default_name) (local-append xs ys) ∙ among-append default_name (local_ids xs) (local_ids ys)) ∙ h)
-
-local-made : (name : Option (List ℕ)) (ids : List Id) → local_ids (map (Local name) ids) ≡ ids
-local-made name [] = refl
-local-made name (id ∷ ids) = ap (λ z. id ∷ z) (local-made name ids)
-
 abbrev default_sought : Sought
 default_sought = record { part = part.Default; stays = true }
 
@@ -84,7 +61,7 @@ exported-item (kind.TsEnumDecl x y) a j = absurd (true-false j refl)
 exported-item (kind.TsModuleDecl x y) a j = absurd (true-false j refl)
 exported-item _ a j = absurd (true-false a refl)
 
-module _ (id : Id) where
+module _ (id : Id) (other : id ≢ default_name) where
   -- the ids of variables among which it is
   abbrev Among : List Binding → Type 0
   Among bs = is_among id (ids_of bs) ≡ true
@@ -230,93 +207,97 @@ module _ (id : Id) where
   exported-lexicals true n m a = absurd (true-false a refl)
   exported-lexicals false n m a = a
 
-  default-none : (b : Bool) (n : Node) (m : Meaning) → NoDefault ((cond b (no_effect n) (role_by n kind.ExportDefaultExpr (m ∷ []))).exports None)
-      → Among (cond b (no_effect n) (role_by n kind.ExportDefaultExpr (m ∷ []))).lexicals → ⊥
-  default-none true n m none a = true-false a refl
-  default-none false n m none a = true-false refl none
+  no-default : (ids : List Id) → is_among id (default_name ∷ ids) ≡ true → is_among id ids ≡ true
+  no-default ids a = go (same_id default_name id) refl a
+    where
+      go : (b : Bool) → same_id default_name id ≡ b → (b || is_among id ids) ≡ true → is_among id ids ≡ true
+      go true e h = absurd (other (sym (same_id-equal default_name id e)))
+      go false e h = h
+
+  default-none : (b : Bool) (n : Node) (m : Meaning) → Among (cond b (no_effect n) (role_by n kind.ExportDefaultExpr (m ∷ []))).lexicals → ⊥
+  default-none true n m a = true-false a refl
+  default-none false n m a = true-false (no-default [] a) refl
 
   -- a function or a class that is exported as the default
 
-  named-only : (b : Bool) (names : List Id) → is_among default_name (cond b (default_name ∷ []) [] ++ names) ≡ false → is_among id (cond b (default_name ∷ []) [] ++ names) ≡ true → is_among id names ≡ true
-  named-only true names none a = absurd (true-false refl none)
-  named-only false names none a = a
+  named-only : (b : Bool) (names : List Id) → is_among id (cond b (default_name ∷ []) [] ++ names) ≡ true → is_among id names ≡ true
+  named-only true names a = no-default names a
+  named-only false names a = a
 
   default-by : (value : Bool) (d : Node) (k : Kind) (ds : List Node) → belongs sort.DefaultDecl k ≡ true → HaveShapes (child_shapes k (one sort.DefaultDecl) (length ds)) ds → plain_by k ds ≡ true → value_where_by true k ds ≡ value
-      → is_among default_name (meaning_by d k (map meaning ds)).default_names ≡ false → is_among id (meaning_by d k (map meaning ds)).default_names ≡ true
+      → is_among id (meaning_by d k (map meaning ds)).default_names ≡ true
       → Kept (id_here default_sought k ++ ids_in (λ i. in_default true value k i) 0 (map ids_declared ds))
   unfolding in_default value_by
-  default-by value d kind.FnExpr (name ∷ function ∷ []) b h p v none a =
+  default-by value d kind.FnExpr (name ∷ function ∷ []) b h p v a =
       let e : has_no_effect kind.FnExpr (meaning name ∷ meaning function ∷ []) ≡ false = plain-effect kind.FnExpr name (function ∷ []) p in
       let is : value ≡ true = sym v ∙ function-value function h.1.0 (not-false (meaning function).has_body e) in
       let names : Bool → List Id = λ t. (cond t (no_effect d) (role_by d kind.FnExpr (meaning name ∷ meaning function ∷ []))).default_names in
       ap (λ t. kept id (ids_declared name (record { part = part.Name form.Function; stays = t }) ++ [])) is
       ∙ kept-nil id (ids_declared name (name_sought form.Function)) ∙ own-named id form.Function name h.0
-      ∙ named-only (meaning name).is_absent (meaning name).names (subst (λ t. is_among default_name (names t) ≡ false) e none) (subst (λ t. is_among id (names t) ≡ true) e a)
-  default-by value d kind.FnExpr [] b h p v none a = absurd h
-  default-by value d kind.FnExpr (c ∷ []) b h p v none a = absurd h.1
-  default-by value d kind.FnExpr (c ∷ e ∷ f ∷ cs) b h p v none a = absurd h.1.1
-  default-by value d kind.ClassExpr (name ∷ class ∷ []) b h p v none a =
-      kept-nil id (ids_declared name (name_sought form.Class)) ∙ own-named id form.Class name h.0 ∙ named-only (meaning name).is_absent (meaning name).names none a
-  default-by value d kind.ClassExpr [] b h p v none a = absurd h
-  default-by value d kind.ClassExpr (c ∷ []) b h p v none a = absurd h.1
-  default-by value d kind.ClassExpr (c ∷ e ∷ f ∷ cs) b h p v none a = absurd h.1.1
-  default-by value d (kind.TsInterfaceDecl declare) ds b h p v none a = absurd (true-false a refl)
-  default-by value d _ ds b h p v none a = absurd (true-false b refl)
+      ∙ named-only (meaning name).is_absent (meaning name).names (subst (λ t. is_among id (names t) ≡ true) e a)
+  default-by value d kind.FnExpr [] b h p v a = absurd h
+  default-by value d kind.FnExpr (c ∷ []) b h p v a = absurd h.1
+  default-by value d kind.FnExpr (c ∷ e ∷ f ∷ cs) b h p v a = absurd h.1.1
+  default-by value d kind.ClassExpr (name ∷ class ∷ []) b h p v a =
+      kept-nil id (ids_declared name (name_sought form.Class)) ∙ own-named id form.Class name h.0 ∙ named-only (meaning name).is_absent (meaning name).names a
+  default-by value d kind.ClassExpr [] b h p v a = absurd h
+  default-by value d kind.ClassExpr (c ∷ []) b h p v a = absurd h.1
+  default-by value d kind.ClassExpr (c ∷ e ∷ f ∷ cs) b h p v a = absurd h.1.1
+  default-by value d (kind.TsInterfaceDecl declare) ds b h p v a = absurd (true-false a refl)
+  default-by value d _ ds b h p v a = absurd (true-false b refl)
 
-  default-kept : (d : Node) → HasShape (one sort.DefaultDecl) d → is_plain d ≡ true → is_among default_name (meaning d).default_names ≡ false → is_among id (meaning d).default_names ≡ true → Kept (ids_declared d default_sought)
+  default-kept : (d : Node) → HasShape (one sort.DefaultDecl) d → is_plain d ≡ true → is_among id (meaning d).default_names ≡ true → Kept (ids_declared d default_sought)
   unfolding sought_in
-  default-kept d h plain none a =
+  default-kept d h plain a =
       let s = shape_out (one sort.DefaultDecl) d h in
       kept-out id d default_sought
       ∙ default-by (is_value_where true d) d (out-Node d).kind (out-Node d).children s.0 s.1 (plain-out d plain).0 (sym (is_value_where-out true d))
-      (sym (ap (λ m. is_among default_name m.default_names) (meaning_out d)) ∙ none) (sym (ap (λ m. is_among id m.default_names) (meaning_out d)) ∙ a)
+      (sym (ap (λ m. is_among id m.default_names) (meaning_out d)) ∙ a)
 
-  exported-default : (b : Bool) (n : Node) (m : Meaning) → NoDefault ((cond b (no_effect n) (role_by n kind.ExportDefaultDecl (m ∷ []))).exports None)
-      → Among (cond b (no_effect n) (role_by n kind.ExportDefaultDecl (m ∷ []))).lexicals → (is_among default_name m.default_names ≡ false) × (is_among id m.default_names ≡ true)
-  exported-default true n m none a = absurd (true-false a refl)
-  exported-default false n m none a =
-      (sym (ap (is_among default_name) (local-made (Some (codes "default")) m.default_names)) ∙ none, sym (ap (is_among id) (ids-made (empty false) (λ x. refl) m.default_names)) ∙ a)
+  exported-default : (b : Bool) (n : Node) (m : Meaning) → Among (cond b (no_effect n) (role_by n kind.ExportDefaultDecl (m ∷ []))).lexicals → is_among id m.default_names ≡ true
+  exported-default true n m a = absurd (true-false a refl)
+  exported-default false n m a = sym (ap (is_among id) (ids-made (empty false) (λ x. refl) m.default_names)) ∙ a
 
-  outer-by : (value : Bool) (n : Node) (k : Kind) (cs : List Node) (around : ℕ → Where) → Each (λ i c. Placed (around i) c) 0 cs → NoDefault ((meaning_by n k (map meaning cs)).exports None)
+  outer-by : (value : Bool) (n : Node) (k : Kind) (cs : List Node) (around : ℕ → Where) → Each (λ i c. Placed (around i) c) 0 cs
       → belongs sort.ModuleItem k ≡ true → is_item k ≡ false → HaveShapes (child_shapes k (one sort.ModuleItem) (length cs)) cs → AllPlain cs → plain_by k cs ≡ true
       → Among (meaning_by n k (map meaning cs)).lexicals → Kept (id_here item_sought k ++ ids_in (λ i. in_item true value k i) 0 (map ids_declared cs))
   unfolding in_item
-  outer-by value n (kind.ImportDecl true) [] around placed none b i h plain p a = absurd h
-  outer-by value n (kind.ImportDecl true) (c ∷ cs) around placed none b i h plain p a = absurd (true-false refl (plain-effect (kind.ImportDecl true) c cs p))
-  outer-by value n (kind.ImportDecl false) (specifiers ∷ source ∷ attributes ∷ []) around placed none b i h plain p a =
+  outer-by value n (kind.ImportDecl true) [] around placed b i h plain p a = absurd h
+  outer-by value n (kind.ImportDecl true) (c ∷ cs) around placed b i h plain p a = absurd (true-false refl (plain-effect (kind.ImportDecl true) c cs p))
+  outer-by value n (kind.ImportDecl false) (specifiers ∷ source ∷ attributes ∷ []) around placed b i h plain p a =
       kept-nil id (ids_declared specifiers item_sought) ∙ from-by (meaning source).text specifiers h.0 (plain-head specifiers (source ∷ attributes ∷ []) plain) a
-  outer-by value n (kind.ImportDecl false) [] around placed none b i h plain p a = absurd h
-  outer-by value n (kind.ImportDecl false) (c ∷ []) around placed none b i h plain p a = absurd h.1
-  outer-by value n (kind.ImportDecl false) (c ∷ d ∷ []) around placed none b i h plain p a = absurd h.1.1
-  outer-by value n (kind.ImportDecl false) (c ∷ d ∷ e ∷ f ∷ cs) around placed none b i h plain p a = absurd h.1.1.1
-  outer-by value n kind.ExportDecl (d ∷ []) around placed none b i h plain p a =
+  outer-by value n (kind.ImportDecl false) [] around placed b i h plain p a = absurd h
+  outer-by value n (kind.ImportDecl false) (c ∷ []) around placed b i h plain p a = absurd h.1
+  outer-by value n (kind.ImportDecl false) (c ∷ d ∷ []) around placed b i h plain p a = absurd h.1.1
+  outer-by value n (kind.ImportDecl false) (c ∷ d ∷ e ∷ f ∷ cs) around placed b i h plain p a = absurd h.1.1.1
+  outer-by value n kind.ExportDecl (d ∷ []) around placed b i h plain p a =
       let s = shape_out (one sort.Decl) d h.0 in
       kept-nil id (ids_declared d item_sought)
       ∙ item-are id (around 0) (one sort.Decl) d (exported-item (out-Node d).kind s.0 (plain-kind (out-Node d).kind (out-Node d).children (plain-out d (plain-head d [] plain)).0)) placed.0 h.0 (plain-head d [] plain)
       ∙ exported-lexicals (has_no_effect kind.ExportDecl (meaning d ∷ [])) n (meaning d) a
-  outer-by value n kind.ExportDecl [] around placed none b i h plain p a = absurd h
-  outer-by value n kind.ExportDecl (c ∷ d ∷ cs) around placed none b i h plain p a = absurd h.1
-  outer-by value n kind.ExportDefaultExpr (e ∷ []) around placed none b i h plain p a = absurd (default-none (has_no_effect kind.ExportDefaultExpr (meaning e ∷ [])) n (meaning e) none a)
-  outer-by value n kind.ExportDefaultExpr [] around placed none b i h plain p a = absurd h
-  outer-by value n kind.ExportDefaultExpr (c ∷ d ∷ cs) around placed none b i h plain p a = absurd h.1
-  outer-by value n kind.ExportDefaultDecl (d ∷ []) around placed none b i h plain p a =
-      let e = exported-default (has_no_effect kind.ExportDefaultDecl (meaning d ∷ [])) n (meaning d) none a in
-      kept-nil id (ids_declared d default_sought) ∙ default-kept d h.0 (plain-head d [] plain) e.0 e.1
-  outer-by value n kind.ExportDefaultDecl [] around placed none b i h plain p a = absurd h
-  outer-by value n kind.ExportDefaultDecl (c ∷ d ∷ cs) around placed none b i h plain p a = absurd h.1
-  outer-by value n (kind.TsImportEqualsDecl x y) cs around placed none b i h plain p a = absurd (true-false (plain-kind (kind.TsImportEqualsDecl x y) cs p) refl)
-  outer-by value n (kind.TsEnumDecl x y) cs around placed none b i h plain p a = absurd (true-false (plain-kind (kind.TsEnumDecl x y) cs p) refl)
-  outer-by value n (kind.TsModuleDecl x y) cs around placed none b i h plain p a = absurd (true-false (plain-kind (kind.TsModuleDecl x y) cs p) refl)
-  outer-by value n kind.List cs around placed none b i h plain p a = absurd (true-false b refl)
-  outer-by value n kind.SwitchCase cs around placed none b i h plain p a = absurd (true-false b refl)
-  outer-by value n (kind.ImportNamedSpecifier t) cs around placed none b i h plain p a = absurd (true-false b refl)
-  outer-by value n kind.ImportDefaultSpecifier cs around placed none b i h plain p a = absurd (true-false b refl)
-  outer-by value n kind.ImportStarAsSpecifier cs around placed none b i h plain p a = absurd (true-false b refl)
-  outer-by value n _ cs around placed none b i h plain p a = absurd (true-false refl i)
+  outer-by value n kind.ExportDecl [] around placed b i h plain p a = absurd h
+  outer-by value n kind.ExportDecl (c ∷ d ∷ cs) around placed b i h plain p a = absurd h.1
+  outer-by value n kind.ExportDefaultExpr (e ∷ []) around placed b i h plain p a = absurd (default-none (has_no_effect kind.ExportDefaultExpr (meaning e ∷ [])) n (meaning e) a)
+  outer-by value n kind.ExportDefaultExpr [] around placed b i h plain p a = absurd h
+  outer-by value n kind.ExportDefaultExpr (c ∷ d ∷ cs) around placed b i h plain p a = absurd h.1
+  outer-by value n kind.ExportDefaultDecl (d ∷ []) around placed b i h plain p a =
+      kept-nil id (ids_declared d default_sought)
+      ∙ default-kept d h.0 (plain-head d [] plain) (exported-default (has_no_effect kind.ExportDefaultDecl (meaning d ∷ [])) n (meaning d) a)
+  outer-by value n kind.ExportDefaultDecl [] around placed b i h plain p a = absurd h
+  outer-by value n kind.ExportDefaultDecl (c ∷ d ∷ cs) around placed b i h plain p a = absurd h.1
+  outer-by value n (kind.TsImportEqualsDecl x y) cs around placed b i h plain p a = absurd (true-false (plain-kind (kind.TsImportEqualsDecl x y) cs p) refl)
+  outer-by value n (kind.TsEnumDecl x y) cs around placed b i h plain p a = absurd (true-false (plain-kind (kind.TsEnumDecl x y) cs p) refl)
+  outer-by value n (kind.TsModuleDecl x y) cs around placed b i h plain p a = absurd (true-false (plain-kind (kind.TsModuleDecl x y) cs p) refl)
+  outer-by value n kind.List cs around placed b i h plain p a = absurd (true-false b refl)
+  outer-by value n kind.SwitchCase cs around placed b i h plain p a = absurd (true-false b refl)
+  outer-by value n (kind.ImportNamedSpecifier t) cs around placed b i h plain p a = absurd (true-false b refl)
+  outer-by value n kind.ImportDefaultSpecifier cs around placed b i h plain p a = absurd (true-false b refl)
+  outer-by value n kind.ImportStarAsSpecifier cs around placed b i h plain p a = absurd (true-false b refl)
+  outer-by value n _ cs around placed b i h plain p a = absurd (true-false refl i)
 
-  item-lexicals : (w : Where) (c : Node) → Placed w c → HasShape (one sort.ModuleItem) c → is_plain c ≡ true → NoDefault ((meaning c).exports None) → Among (meaning c).lexicals → Kept (ids_declared c item_sought)
+  item-lexicals : (w : Where) (c : Node) → Placed w c → HasShape (one sort.ModuleItem) c → is_plain c ≡ true → Among (meaning c).lexicals → Kept (ids_declared c item_sought)
   unfolding sought_in
-  item-lexicals w c p h plain none a = go (is_item (out-Node c).kind) refl
+  item-lexicals w c p h plain a = go (is_item (out-Node c).kind) refl
     where
       go : (b : Bool) → is_item (out-Node c).kind ≡ b → Kept (ids_declared c item_sought)
       go true e = item-are id w (one sort.ModuleItem) c e p h plain ∙ a
@@ -325,54 +306,53 @@ module _ (id : Id) where
           let t = plain-out c plain in
           kept-out id c item_sought
           ∙ outer-by (is_value_where true c) c (out-Node c).kind (out-Node c).children (where_in w c) (sound-out (λ w node. is_out_of_role w.role node) w c p).1
-          (sym (ap (λ m. is_among default_name (local_ids (m.exports None))) (meaning_out c)) ∙ none) s.0 e s.1 t.1 t.0 (sym (ap (λ m. is_among id (ids_of m.lexicals)) (meaning_out c)) ∙ a))
+          s.0 e s.1 t.1 t.0 (sym (ap (λ m. is_among id (ids_of m.lexicals)) (meaning_out c)) ∙ a))
 
   each-lexical : (around : ℕ → Where) (i : ℕ) (cs : List Node) → Each (λ j c. Placed (around j) c) i cs → HaveShapes (replicate (length cs) (one sort.ModuleItem)) cs → AllPlain cs
-      → NoDefault (all_exports (map meaning cs) None) → Among (all_lexicals (map meaning cs)) → Kept (ids_in (λ j. Some item_sought) i (map ids_declared cs))
-  each-lexical around i [] p h plain none a = absurd (true-false a refl)
-  each-lexical around i (c ∷ cs) p h plain none a =
-      let neither = neither-default ((meaning c).exports None) (all_exports (map meaning cs) None) none in
+      → Among (all_lexicals (map meaning cs)) → Kept (ids_in (λ j. Some item_sought) i (map ids_declared cs))
+  each-lexical around i [] p h plain a = absurd (true-false a refl)
+  each-lexical around i (c ∷ cs) p h plain a =
       let xs = ids_declared c item_sought in
       let ys = ids_in (λ j. Some item_sought) (suc i) (map ids_declared cs) in
       either-of (meaning c).lexicals (all_lexicals (map meaning cs)) (Kept (xs ++ ys)) a
-      (λ e. kept-first xs ys (item-lexicals (around i) c p.0 h.0 (plain-head c cs plain) neither.0 e))
-      (λ e. kept-second xs ys (each-lexical around (suc i) cs p.1 h.1 (plain-tail c cs plain) neither.1 e))
+      (λ e. kept-first xs ys (item-lexicals (around i) c p.0 h.0 (plain-head c cs plain) e))
+      (λ e. kept-second xs ys (each-lexical around (suc i) cs p.1 h.1 (plain-tail c cs plain) e))
 
   lexicals-by : (value : Bool) (n : Node) (k : Kind) (cs : List Node) (around : ℕ → Where) → is_list k ≡ true → Each (λ j c. Placed (around j) c) 0 cs
-      → HaveShapes (child_shapes k (shape_of count.Many sort.ModuleItem) (length cs)) cs → AllPlain cs → NoDefault ((meaning_by n k (map meaning cs)).exports None) → Among (meaning_by n k (map meaning cs)).lexicals
+      → HaveShapes (child_shapes k (shape_of count.Many sort.ModuleItem) (length cs)) cs → AllPlain cs → Among (meaning_by n k (map meaning cs)).lexicals
       → Kept (id_here item_sought k ++ ids_in (λ i. in_item true value k i) 0 (map ids_declared cs))
   unfolding in_item
-  lexicals-by value n kind.List cs around b p h plain none a = each-lexical around 0 cs p h plain none a
-  lexicals-by value n _ cs around b p h plain none a = absurd (true-false b refl)
+  lexicals-by value n kind.List cs around b p h plain a = each-lexical around 0 cs p h plain a
+  lexicals-by value n _ cs around b p h plain a = absurd (true-false b refl)
 
-  body-lexicals : (w : Where) (body : Node) → Placed w body → HasShape (shape_of count.Many sort.ModuleItem) body → is_plain body ≡ true → NoDefault ((meaning body).exports None)
+  body-lexicals : (w : Where) (body : Node) → Placed w body → HasShape (shape_of count.Many sort.ModuleItem) body → is_plain body ≡ true
       → Among (meaning body).lexicals → Kept (ids_declared body item_sought)
   unfolding sought_in
-  body-lexicals w body p h plain none a =
+  body-lexicals w body p h plain a =
       let s = shape_out (shape_of count.Many sort.ModuleItem) body h in
       kept-out id body item_sought
       ∙ lexicals-by (is_value_where true body) body (out-Node body).kind (out-Node body).children (where_in w body) s.0 (sound-out (λ w node. is_out_of_role w.role node) w body p).1 s.1 (plain-out body plain).1
-      (sym (ap (λ m. is_among default_name (local_ids (m.exports None))) (meaning_out body)) ∙ none) (sym (ap (λ m. is_among id (ids_of m.lexicals)) (meaning_out body)) ∙ a)
+      (sym (ap (λ m. is_among id (ids_of m.lexicals)) (meaning_out body)) ∙ a)
 
   -- ---- the module
 
   module-by : (value : Bool) (n : Node) (k : Kind) (cs : List Node) (around : ℕ → Where) (found : List DeclaredId) → belongs sort.Module k ≡ true → Each (λ j c. Placed (around j) c) 0 cs
       → HaveShapes (child_shapes k (one sort.Module) (length cs)) cs → AllPlain cs
-      → kept id found ≡ kept id (id_here var_sought k ++ ids_in (λ i. in_var true k) 0 (map ids_declared cs)) → NoDefault ((meaning_by n k (map meaning cs)).exports None) → Among (meaning_by n k (map meaning cs)).locals
+      → kept id found ≡ kept id (id_here var_sought k ++ ids_in (λ i. in_var true k) 0 (map ids_declared cs)) → Among (meaning_by n k (map meaning cs)).locals
       → (kept id (id_here (record { part = part.Scope; stays = true }) k ++ ids_in (λ i. in_scope true value k i) 0 (map ids_declared cs)) || kept id (cond (holds_vars role.Root k) found [])) ≡ true
   unfolding in_scope in_var holds_vars
-  module-by value n (kind.Module s) (body ∷ []) around found b p h plain f none a =
+  module-by value n (kind.Module s) (body ∷ []) around found b p h plain f a =
       let items = kept id (ids_declared body item_sought ++ []) in
       either-of (meaning body).vars (meaning body).lexicals ((items || kept id found) ≡ true) a
       (λ e. or-second items (kept id found) (f ∙ kept-nil id (ids_declared body var_sought) ∙ body-vars (around 0) body p.0 h.0 (plain-head body [] plain) e))
-      (λ e. or-first items (kept id found) (kept-nil id (ids_declared body item_sought) ∙ body-lexicals (around 0) body p.0 h.0 (plain-head body [] plain) none e))
-  module-by value n (kind.Module s) [] around found b p h plain f none a = absurd h
-  module-by value n (kind.Module s) (c ∷ d ∷ cs) around found b p h plain f none a = absurd h.1
-  module-by value n _ cs around found b p h plain f none a = absurd (true-false b refl)
+      (λ e. or-first items (kept id found) (kept-nil id (ids_declared body item_sought) ∙ body-lexicals (around 0) body p.0 h.0 (plain-head body [] plain) e))
+  module-by value n (kind.Module s) [] around found b p h plain f a = absurd h
+  module-by value n (kind.Module s) (c ∷ d ∷ cs) around found b p h plain f a = absurd h.1
+  module-by value n _ cs around found b p h plain f a = absurd (true-false b refl)
 
-  pub module-declares : (w : Where) (tree : Node) → Placed w tree → HasShape (one sort.Module) tree → is_plain tree ≡ true → NoDefault (exports_in tree) → Among (meaning tree).locals → declares_id (own_scope role.Root [] tree) id ≡ true
+  pub module-declares : (w : Where) (tree : Node) → Placed w tree → HasShape (one sort.Module) tree → is_plain tree ≡ true → Among (meaning tree).locals → declares_id (own_scope role.Root [] tree) id ≡ true
   unfolding sought_in
-  module-declares w tree p h plain none a =
+  module-declares w tree p h plain a =
       let s = shape_out (one sort.Module) tree h in
       let k = (out-Node tree).kind in
       own-agrees (id.sym, id.ctxt) role.Root [] tree
@@ -380,5 +360,5 @@ module _ (id : Id) where
       (scope-kept id role.Root tree refl
       ∙ ap (λ b. b || kept id (cond (holds_vars role.Root k) (ids_declared tree var_sought) [])) (own-found id role.Root part.Scope tree refl)
       ∙ module-by (is_value_where true tree) tree k (out-Node tree).children (where_in w tree) (ids_declared tree var_sought) s.0 (sound-out (λ w node. is_out_of_role w.role node) w tree p).1 s.1 (plain-out tree plain).1
-      (kept-out id tree var_sought) (sym (ap (λ m. is_among default_name (local_ids (m.exports None))) (meaning_out tree)) ∙ none) (sym (ap (λ m. is_among id (ids_of m.locals)) (meaning_out tree)) ∙ a))
+      (kept-out id tree var_sought) (sym (ap (λ m. is_among id (ids_of m.locals)) (meaning_out tree)) ∙ a))
       refl

@@ -1,16 +1,17 @@
--- Names may meet under the final texts of a plain module that fits.
+-- Names may meet under the final texts of a plain module that fits, and under its own.
 use Rattle.std.proofs.Common.{◌≡◌, ◌⊎◌, inl, inr, refl, sym, ap, ◌∙◌, ℕ, List, [], ◌∷◌, ◌++◌, map, filter, Option, Some, None, Bool, true, false, cond, ◌&&◌, ◌||◌, bytes_eq, codes, unwrap_or}
 use Rattle.std.specs.List.{All, list_any}
-use Rattle.std.proofs.lemmas.List.Elements.{All-cons, All-head, All-nil, All-tail}
+use Rattle.std.proofs.lemmas.List.Elements.{All-cons, All-nil}
 use Rattle.std.proofs.lemmas.Slice.Eq.{bytes_eq-Decides}
 use Rattle.ecma_lex.specs.Keys.{is_reserved, reserved_words}
 use Rattle.ecma_tree.specs.declared.node.Node.{Node}
 use Rattle.ecma_hygiene.specs.declared.naming.Named.{Named}
 use Rattle.ecma_hygiene.specs.declared.sight.Meeting.{Meeting}
 use Rattle.ecma_hygiene.specs.declared.sight.Sight.{Sight}
-use Rattle.ecma_hygiene.specs.Ids.{Id as HygieneId, same_id}
+use Rattle.ecma_scope.specs.Scopes.{opens}
+use Rattle.ecma_hygiene.specs.Ids.{Id as HygieneId, Scope, has_context, innermost, same_id}
 use Rattle.ecma_hygiene.specs.Renamed.{Texts, text_of}
-use Rattle.ecma_hygiene.specs.Sights.{meetings, sights}
+use Rattle.ecma_hygiene.specs.Sights.{meetings, own_scope, sights}
 use Rattle.ecma_hygiene.specs.Texts.{AreTexts, GetTexts, Had, HygienicTexts, bindings, changes, declared_in, distinct, had_with, is_bound, is_new, last_text, none, source_has, text_in, with_text}
 use Rattle.ecma_hygiene.proofs.Telling.{and-both, id-refl, id-same, or-first, or-second, true-false}
 use Rattle.ecma_hygiene_fits.specs.Laws.{HygienicTextsAreUnreserved}
@@ -19,17 +20,30 @@ use Rattle.ecma_hygiene_runs.specs.Laws.{BindingsAreDeclared}
 use Rattle.ecma_hygiene_runs.specs.Plain.{is_plain}
 use Rattle.ecma_fits.specs.Fitting.{Fits}
 use Rattle.ecma_runs.specs.State.{Id}
-use Rattle.ecma_runs.specs.Environment.{is_among}
+use Rattle.ecma_runs.specs.Environment.{ids_of, is_among}
 use Rattle.ecma_runs.specs.Evaluation.{meaning}
-use Rattle.ecma_runs.specs.Names.{keys_in}
-use Rattle.ecma_hygiene_meeting.specs.Laws.{FinalTextsMayMeet}
+use Rattle.ecma_runs.specs.Exports.{export_names, local_ids}
+use Rattle.ecma_runs.specs.Observation.{exports_in}
+use Rattle.ecma_runs.specs.Sought.{sought_in}
+use Rattle.ecma_hygiene_scopes.specs.Once.{DeclaresEachOnce}
+use Rattle.ecma_hygiene_meeting.specs.Laws.{FinalTextsMeet, WhatIsNotCapturedMeets}
 use Rattle.ecma_hygiene_meeting.specs.Places.{Place, places}
-use Rattle.ecma_hygiene_meeting.specs.Texts.{IsRewritten, NamesAreTold, TellsNames, written}
-use Rattle.ecma_pipeline_meeting.specs.Laws.{PlainFinalTextsMayMeet}
-use Rattle.ecma_pipeline_meeting.specs.Telling.{SaysItsScopes, SaysScopes, TellsOwnNames, TellsParameters}
+use Rattle.ecma_hygiene_meeting.specs.Texts.{IsRewritten, NamesAreTold, TellsItsNames, TellsNames, written}
+use Rattle.ecma_hygiene_meeting.proofs.Among.{either-of}
+use Rattle.ecma_pipeline_meeting.specs.Laws.{PlainFinalTextsMeet, PlainOwnTextsMeet}
+use Rattle.ecma_pipeline_meeting.specs.Telling.{BindsInside, IsInside, SaysItsScopes, SaysScopes, TellsOwnNames, TellsParameters}
 use Rattle.ecma_pipeline_meeting.proofs.Apart.{final_texts_tell_names_from_parameters, final_texts_tell_names_of_scopes}
+use Rattle.ecma_pipeline_meeting.proofs.Exporting.{exports-known}
 use Rattle.ecma_pipeline_meeting.proofs.Records.{plain_modules_have_records_of_scopes}
 use Rattle.ecma_pipeline_meeting.proofs.Walks.{both-all}
+
+-- no id gets another text
+abbrev itself : Texts
+itself id = None
+
+-- a scope declares each text in one context
+abbrev EachOnce : Place → Type 0
+EachOnce place = DeclaresEachOnce place.node place.around
 
 -- ---- what gets a text is bound
 
@@ -105,65 +119,96 @@ not_reserved word free = go (bytes_eq word (codes "this")) refl
     go false e = e
     go true e = absurd (true-false (ap is_reserved ((bytes_eq-Decides word (codes "this")).0 e) ∙ this_reserved) free)
 
-module _ (names : List Named) (free : ℕ) (tree : Node) (are : HygienicTexts tree names) (declared : BindingsAreDeclared) (unreserved : HygienicTextsAreUnreserved) (fits : Fits tree) (plain : is_plain tree ≡ true)
-    (says : SaysScopes free tree) where
-  abbrev texts : Texts
-  texts = text_in names
+-- ---- what is told of the names of a tree
 
-  bound-of : (id : HygieneId) (text : List ℕ) → texts id ≡ Some text → is_bound (sights tree) id ≡ true
-  bound-of id text e = go (is_bound (sights tree) id) refl
-    where
-      some : ◌≡◌ {A = Option (List ℕ)} None (Some text) → ⊥
-      some h = cc
+none-some : (text : List ℕ) → ◌≡◌ {A = Option (List ℕ)} None (Some text) → ⊥
+none-some text h = cc
 
-      go : (b : Bool) → is_bound (sights tree) id ≡ b → is_bound (sights tree) id ≡ true
-      go true is = is
-      go false is = absurd (some (sym (unbound-none (sights tree) (meetings tree) names are id is) ∙ e))
-
+module _ (bindings : BindingsAreDeclared) (tree : Node) (fits : Fits tree) (plain : is_plain tree ≡ true) where
   declared-of : (id : Id) → is_bound (sights tree) (id.sym, id.ctxt) ≡ true → is_among id (meaning tree).declared ≡ true
-  declared-of id h = declared tree fits.sorted plain (id.sym, id.ctxt) h
+  declared-of id h = bindings tree fits.sorted plain (id.sym, id.ctxt) h
 
-  apart-by : (id : HygieneId) (text : List ℕ) → text_of texts id ≡ text → bytes_eq id.0 (codes "this") ≡ false → (text_of texts id ≡ id.0) ⊎ IsUnreserved (text_of texts id) → bytes_eq text (codes "this") ≡ false
-  apart-by id text e this (inl same) = ap (λ t. bytes_eq t (codes "this")) (sym e ∙ same) ∙ this
-  apart-by id text e this (inr u) = not_reserved text (ap is_reserved (sym e) ∙ u.unreserved)
+  own-exports : (free : ℕ) (id : Id) → is_among id (local_ids (exports_in tree)) ≡ true
+      → (is_among id (ids_of (meaning tree).locals) ≡ true) ⊎ ((is_among id (sought_in tree).sought ≡ true) ⊎ (id.ctxt ≡ free))
+  own-exports free id h = either-of (exports-known id tree fits.sorted plain h) inl (λ s. inr (inl s))
 
-  given : (id : Id) (text : List ℕ) → texts (id.sym, id.ctxt) ≡ Some text → IsRewritten tree id text
-  given id text e =
-      let bound : is_bound (sights tree) (id.sym, id.ctxt) ≡ true = bound-of (id.sym, id.ctxt) text e in
-      record {
-        declared = declared-of id bound;
-        apart = says.no_this (id.sym, id.ctxt) bound;
-        text_apart = apart-by (id.sym, id.ctxt) text (ap (λ o. unwrap_or o id.sym) e) (says.no_this (id.sym, id.ctxt) bound) (unreserved tree names are (id.sym, id.ctxt));
-      }
+  -- under final texts
+  module _ (names : List Named) (free : ℕ) (are : HygienicTexts tree names) (unreserved : HygienicTextsAreUnreserved) (says : SaysScopes (is_new (sights tree)) free tree) (inside : BindsInside free tree) where
+    abbrev texts : Texts
+    texts = text_in names
 
-  -- what is in the empty context is no binding
-  empty-stays : (id : Id) → id.ctxt ≡ 0 → written texts id ≡ id.sym
-  empty-stays id e = go (is_bound (sights tree) (id.sym, id.ctxt)) refl
-    where
-      go : (b : Bool) → is_bound (sights tree) (id.sym, id.ctxt) ≡ b → written texts id ≡ id.sym
-      go true is = absurd ((says.declared id (declared-of id is)).0 e)
-      go false is = ap (λ o. unwrap_or o id.sym) (unbound-none (sights tree) (meetings tree) names are (id.sym, id.ctxt) is)
+    bound-of : (id : HygieneId) (text : List ℕ) → texts id ≡ Some text → is_bound (sights tree) id ≡ true
+    bound-of id text e = go (is_bound (sights tree) id) refl
+      where
+        go : (b : Bool) → is_bound (sights tree) id ≡ b → is_bound (sights tree) id ≡ true
+        go true is = is
+        go false is = absurd (none-some text (sym (unbound-none (sights tree) (meetings tree) names are id is) ∙ e))
 
-  keys-stay : (ids : List Id) → All (λ id. id.ctxt ≡ 0) ids → All (λ id. written texts id ≡ id.sym) ids
-  keys-stay [] h = All-nil (λ id. written texts id ≡ id.sym)
-  keys-stay (id ∷ ids) h = All-cons (λ id. written texts id ≡ id.sym) id ids (empty-stays id (All-head (λ id. id.ctxt ≡ 0) id ids h)) (keys-stay ids (All-tail (λ id. id.ctxt ≡ 0) id ids h))
+    apart-by : (id : HygieneId) (text : List ℕ) → text_of texts id ≡ text → bytes_eq id.0 (codes "this") ≡ false → (text_of texts id ≡ id.0) ⊎ IsUnreserved (text_of texts id) → bytes_eq text (codes "this") ≡ false
+    apart-by id text e this (inl same) = ap (λ t. bytes_eq t (codes "this")) (sym e ∙ same) ∙ this
+    apart-by id text e this (inr u) = not_reserved text (ap is_reserved (sym e) ∙ u.unreserved)
 
-  abbrev Told : Place → Type 0
-  Told place = TellsOwnNames texts place × TellsParameters texts place
+    given : (id : Id) (text : List ℕ) → texts (id.sym, id.ctxt) ≡ Some text → IsRewritten free tree id text
+    given id text e =
+        let bound : is_bound (sights tree) (id.sym, id.ctxt) ≡ true = bound-of (id.sym, id.ctxt) text e in
+        let is : IsInside free (id.sym, id.ctxt) = inside (id.sym, id.ctxt) bound in
+        record {
+          declared = declared-of id bound;
+          inner = is.inner;
+          bound = is.bound;
+          apart = is.no_this;
+          text_apart = apart-by (id.sym, id.ctxt) text (ap (λ o. unwrap_or o id.sym) e) is.no_this (unreserved tree names are (id.sym, id.ctxt));
+        }
 
-  told : (place : Place) → SaysItsScopes free place → Told place → TellsNames texts free place
-  told place scope t = record { outer = scope.outer; free_names = scope.free_names; own_names = λ opened. t.0 opened (scope.once opened); parameters = t.1 }
+    abbrev Told : Place → Type 0
+    Told place = TellsOwnNames (is_new (sights tree)) texts place × TellsParameters texts place
 
-  pub names-told : NamesAreTold texts free tree
-  names-told = record {
-    told = both-all (SaysItsScopes free) Told (TellsNames texts free) (places tree) told says.scopes
-        (both-all (TellsOwnNames texts) (TellsParameters texts) Told (places tree) (λ place a b. (a, b)) (final_texts_tell_names_of_scopes tree names are) (final_texts_tell_names_from_parameters tree names are));
-    declared = says.declared;
-    given = given;
-    keys = keys-stay (keys_in tree) says.keys;
-  }
+    told : (place : Place) → SaysItsScopes (is_new (sights tree)) free place → Told place → TellsNames texts free place
+    told place scope t = record { outer = scope.outer; free_names = scope.free_names; own_names = λ opened. t.0 opened (scope.once opened); parameters = t.1 }
 
-pub plain_final_texts_may_meet : BindingsAreDeclared → HygienicTextsAreUnreserved → FinalTextsMayMeet → PlainFinalTextsMayMeet
-plain_final_texts_may_meet declared unreserved meet names free to tree are fits plain says keeps stays others exports =
-    let records = plain_modules_have_records_of_scopes declared tree fits plain others in
-    meet names free to tree are records (names-told names free tree are declared unreserved fits plain says) keeps stays exports
+    pub final-told : NamesAreTold texts free tree
+    final-told = record {
+      told = both-all (SaysItsScopes (is_new (sights tree)) free) Told (TellsNames texts free) (places tree) told says.scopes
+          (both-all (TellsOwnNames (is_new (sights tree)) texts) (TellsParameters texts) Told (places tree) (λ place a b. (a, b)) (final_texts_tell_names_of_scopes tree names are) (final_texts_tell_names_from_parameters tree names are));
+      given = given;
+    }
+
+  -- and under its own texts
+  module _ (free : ℕ) (each : All EachOnce (places tree)) (says : SaysScopes (λ id. false) free tree) where
+    own-one : (place : Place) → EachOnce place → opens place.around.role place.node ≡ true → TellsItsNames itself (own_scope place.around.role place.around.scopes place.node)
+    own-one place once opened a b ha hb same =
+        let scope : Scope = own_scope place.around.role place.around.scopes place.node in
+        let ctxts : a.ctxt ≡ b.ctxt = once.once opened b.sym a.ctxt b.ctxt (ap (λ (t : List ℕ). has_context a.ctxt (scope t)) (sym same) ∙ ha) hb in
+        λ i. record { sym = same i; ctxt = ctxts i }
+
+    tells : (place : Place) → SaysItsScopes (λ id. false) free place → EachOnce place → TellsNames itself free place
+    tells place scope once = record {
+      outer = scope.outer;
+      free_names = scope.free_names;
+      own_names = own-one place once;
+      parameters = λ body parameter name hp hn same.
+          once.apart body name.sym parameter.ctxt name.ctxt (ap (λ (t : List ℕ). has_context parameter.ctxt (innermost place.around.scopes t)) (sym same) ∙ hp) hn;
+    }
+
+    none-given : (id : Id) (text : List ℕ) → ◌≡◌ {A = Option (List ℕ)} None (Some text) → IsRewritten free tree id text
+    none-given id text e = absurd (none-some text e)
+
+    pub own-told : NamesAreTold itself free tree
+    own-told = record {
+      told = both-all (SaysItsScopes (λ id. false) free) EachOnce (TellsNames itself free) (places tree) tells says.scopes each;
+      given = none-given;
+    }
+
+all-stay : (ids : List Id) → All (λ id. written itself id ≡ id.sym) ids
+all-stay [] = All-nil (λ id. written itself id ≡ id.sym)
+all-stay (id ∷ ids) = All-cons (λ id. written itself id ≡ id.sym) id ids refl (all-stay ids)
+
+pub plain_final_texts_meet : BindingsAreDeclared → HygienicTextsAreUnreserved → FinalTextsMeet → PlainFinalTextsMeet
+plain_final_texts_meet bindings unreserved meet names free to tree are fits plain says inside keeps stays exports =
+    meet names free to tree are (plain_modules_have_records_of_scopes bindings tree fits plain) (final-told bindings tree fits plain names free are unreserved says inside) keeps stays
+    (record { own = own-exports bindings tree fits plain free; stay = exports })
+
+pub plain_own_texts_meet : BindingsAreDeclared → WhatIsNotCapturedMeets → PlainOwnTextsMeet
+plain_own_texts_meet bindings meet free to tree none each fits plain says keeps stays =
+    meet itself free to tree (plain_modules_have_records_of_scopes bindings tree fits plain) (record { not_captured = none; names = own-told bindings tree fits plain free each says }) keeps stays
+    (record { own = own-exports bindings tree fits plain free; stay = all-stay (export_names (exports_in tree)) })

@@ -1,5 +1,5 @@
--- In a plain module that fits and exports no value as the default, each scope for which the evaluator makes a record is that record.
-use Rattle.std.proofs.Common.{◌≡◌, refl, sym, ap, ◌∙◌, subst, List, [], ◌++◌, map, Bool, true, false, cond, ◌&&◌, ◌||◌}
+-- In a plain module that fits, each scope for which the evaluator makes a record is that record.
+use Rattle.std.proofs.Common.{◌≡◌, ◌⊎◌, inl, inr, refl, sym, ap, ◌∙◌, subst, List, [], ◌++◌, map, Bool, true, false, cond, ◌&&◌, ◌||◌}
 use Rattle.ecma_kind.specs.Sorts.{belongs}
 use Rattle.ecma_kind.specs.declared.kind.Kind.{Kind}
 use Rattle.ecma_kind.specs.declared.kind.Kind.TheVariants as kind
@@ -22,10 +22,11 @@ use Rattle.ecma_hygiene_scopes.specs.DeclaredIds.{id_here, ids_declared, ids_in,
 use Rattle.ecma_hygiene_scopes.proofs.Membership.{own-agrees}
 use Rattle.ecma_hygiene_runs.specs.Laws.{BindingsAreDeclared}
 use Rattle.ecma_hygiene_runs.specs.Plain.{is_plain}
-use Rattle.ecma_runs.specs.State.{Id}
+use Rattle.ecma_runs.specs.State.{Id, default_name, same_id}
 use Rattle.ecma_runs.specs.Environment.{ids_of, is_among}
 use Rattle.ecma_runs.specs.Evaluation.{meaning, meaning_by}
 use Rattle.ecma_runs.proofs.Layer.{meaning_out}
+use Rattle.ecma_runs.proofs.Names.{same_id-equal, same_id-itself}
 use Rattle.ecma_hygiene_meeting.specs.Records.{IsFormed, IsRecord, declares_id, has_record, record_names}
 use Rattle.ecma_pipeline_meeting.specs.Laws.{PlainModulesHaveRecordsOfScopes}
 use Rattle.ecma_pipeline_meeting.proofs.Locals.{module-declares}
@@ -119,13 +120,20 @@ unfolding opens_by
 module-opens (kind.Module s) there e = refl
 module-opens _ there e = absurd (true-false e refl)
 
+-- a variable of the module is that of a default export without a name, or its scope declares it
+local-by : (tree : Node) → Fits tree → is_plain tree ≡ true → (id : Id) → is_among id (ids_of (meaning tree).locals) ≡ true → (b : Bool) → same_id id default_name ≡ b
+    → (id ≡ default_name) ⊎ (declares_id (own_scope role.Root [] tree) id ≡ true)
+local-by tree fits plain id h true e = inl (same_id-equal id default_name e)
+local-by tree fits plain id h false e =
+    inr (module-declares id (λ d. true-false (ap (λ z. same_id z default_name) d ∙ same_id-itself default_name) e) at_top tree fits.roles fits.sorted plain h)
+
 pub plain_modules_have_records_of_scopes : BindingsAreDeclared → PlainModulesHaveRecordsOfScopes
-plain_modules_have_records_of_scopes bindings tree fits plain none =
+plain_modules_have_records_of_scopes bindings tree fits plain =
     let stands = root-stands tree fits plain in
     let whole : belongs sort.Module (out-Node tree).kind ≡ true = (shape_out (one sort.Module) tree fits.sorted).0 in
     record {
       whole = whole;
-      locals = λ id h. module-declares id at_top tree fits.roles fits.sorted plain none h;
+      locals = λ id h. local-by tree fits plain id h (same_id id default_name) refl;
       declared = λ id h. bindings tree fits.sorted plain (id.sym, id.ctxt) (own-bound tree nowhere (id.sym, id.ctxt) (module-opens (out-Node tree).kind (is_there (out-Node tree).children 0) whole) h);
       formed = held Stands IsFormed down formed tree nowhere stands;
       records = held Stands IsRecord down is-record tree nowhere stands;

@@ -18,10 +18,10 @@ apart : ◌≡◌ {A = Spot} spot.Elsewhere spot.Property → ⊥
 apart h = cc
 
 pub counts : ReadingAgainCounts
-counts unresolved top left to tree names texts none right =
-    counts-again unresolved top to none (sights tree) (meetings tree) names texts tree nowhere spot.Elsewhere [] left all-fine tt (λ h. absurd (apart h))
+counts unresolved top left from to tree names texts kept none right =
+    counts-again unresolved top from to kept none (sights tree) (meetings tree) names texts tree nowhere spot.Elsewhere [] left all-fine tt (λ h. absurd (apart h))
   where
-    all-fine : All (Fine unresolved top to none (sights tree) (meetings tree) names texts) (stops left tree)
+    all-fine : All (Fine unresolved top from to kept none (sights tree) (meetings tree) names texts) (stops left tree)
     all-fine k d lt =
         let captured = inside Placed placed_here (IsNotCaptured (text_in names)) tree nowhere left (nothing-is-captured tree names texts) in
         let seen = inside Sight sight_here (IsAmong (sights tree)) tree nowhere left (all-among (sights tree)) in

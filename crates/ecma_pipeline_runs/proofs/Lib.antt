@@ -17,6 +17,9 @@ pub mod Names
 pub mod Renaming
 pub mod Keeping
 pub mod Receivers
+pub mod Binding
+pub mod InSource
+pub mod Twice
 pub mod Ready
 pub mod Recounted
 pub mod Chain

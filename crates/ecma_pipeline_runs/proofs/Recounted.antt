@@ -6,12 +6,11 @@ use Rattle.ecma_tree.specs.declared.node.Node.{Node, Node-F, ind-Node, out-Node,
 use Rattle.ecma_tree.specs.declared.node.Node.TheViews.{out-roll-Node}
 use Rattle.ecma_scope.specs.Resolved.{context_count, taken}
 use Rattle.ecma_hygiene.specs.Sights.{Around, around_child, nowhere}
-use Rattle.ecma_hygiene_scopes.specs.Apart.{AreApart, own_contexts}
+use Rattle.ecma_hygiene_scopes.specs.Apart.{AreApart, HasOneContext, own_contexts}
 use Rattle.ecma_hygiene_scopes.specs.Lasting.{KeepsScope, KeepsScopesApart}
 use Rattle.ecma_hygiene_scopes.specs.Stops.{Stop, stops, stops_at, stops_from}
 use Rattle.ecma_hygiene_scopes.proofs.Stopping.{All-first, All-second, stop-here, stops-below, stops-out}
-use Rattle.ecma_ready.specs.Ready.{HasOwnContexts, SaysItsScopes, contexts_there}
-use Rattle.ecma_pipeline_runs.proofs.Ready.{HasOneContext}
+use Rattle.ecma_ready.specs.Ready.{HasOwnContexts, SaysItsScopes}
 
 -- what holds of the nodes of a tree with what stands around them
 module _ (P : Node → Around → Type 0) where
@@ -94,6 +93,6 @@ says-its-scopes free left tree keeps = moves (SaysItsScopes free) tree nowhere l
 
 pub has-own-contexts : (free left : ℕ) (tree : Node) → KeepsScopesApart free left tree → HasOwnContexts tree
 has-own-contexts free left tree keeps = record {
-  one = moves (λ node around. HasOneContext (record { node = node; around = around; left = 0 })) tree nowhere left 0 (λ k d lt. (keeps.scoped k d lt).one);
+  one = moves (λ node around. HasOneContext (record { node = node; around = around; left = 0 })) tree nowhere left 0 keeps.one;
   apart = subst AreApart (same tree nowhere left 0) keeps.apart;
 }

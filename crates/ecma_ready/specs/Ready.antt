@@ -16,10 +16,12 @@ use Rattle.ecma_strip_fits.specs.Targets.{HasPlainTargets}
 use Rattle.ecma_hygiene.specs.Capture.{NoneDeclares}
 use Rattle.ecma_hygiene.specs.Ids.{has_context, innermost, is_block, is_body_block}
 use Rattle.ecma_hygiene.specs.Renamed.{kind_is_absent}
-use Rattle.ecma_hygiene.specs.Sights.{Around}
+use Rattle.ecma_hygiene.specs.Sights.{Around, sights}
+use Rattle.ecma_hygiene.specs.Texts.{is_new}
 use Rattle.ecma_hygiene_fits.specs.Spelled.{NoneLong}
 use Rattle.ecma_hygiene_scopes.specs.Apart.{AreApart, own_contexts}
 use Rattle.ecma_hygiene_scopes.specs.DeclaredIds.{DeclaredId, scope_ids}
+use Rattle.ecma_hygiene_scopes.specs.Once.{DeclaresTextsOnce}
 use Rattle.ecma_hygiene_scopes.specs.Stops.{Stop, stops}
 use Rattle.ecma_plain.specs.Plain.{HasUtf8Texts}
 use Rattle.ecma_plain.specs.Writable.{IsWritable}
@@ -81,3 +83,7 @@ pub record HasOwnContexts (tree : Node) : Type 0 where
   pub one : All (λ (stop : Stop). (c d : ℕ) → has_context c (contexts_there stop.node stop.around) ≡ true → has_context d (contexts_there stop.node stop.around) ≡ true → c ≡ d) (stops 0 tree)
   -- and no two scopes declare in the same
   pub apart : AreApart (map own_contexts (stops 0 tree))
+
+-- of the ids that a scope declares with one text, and that were not made, there is one: so final texts tell them apart
+pub record DeclaresItsTextsOnce (tree : Node) : Type 0 where
+  pub once : All (λ (stop : Stop). DeclaresTextsOnce (is_new (sights tree)) stop.node stop.around) (stops 0 tree)

@@ -13,5 +13,6 @@ pub mod KindsKept
 pub mod StayingSeats
 pub mod AtStops
 pub mod Walking
+pub mod StrippedScopes
 pub mod Wrapping
 pub mod StrippedModules

@@ -1,4 +1,4 @@
--- A stop of the tree without types is scoped where that of the tree keeps its scope.
+-- A stop of the tree without types, beside the one of the tree that it comes from: its scope declares the same, and it is scoped where that one keeps its scope.
 use Rattle.std.proofs.Common.{◌≡◌, ◌⊎◌, inl, inr, ℕ, ◌==◌, Bool, true, false, ◌&&◌, not, cond, List, [], ◌∷◌, ◌++◌, map, Option, Some, None, refl, sym, ap, ap₂, ◌∙◌, subst, get_or}
 use Rattle.std.specs.List.{All, list_any}
 use Rattle.std.proofs.lemmas.List.Elements.{All-append, All-nil}
@@ -21,9 +21,10 @@ use Rattle.ecma_strip.specs.Stripping.{plain_kind}
 use Rattle.ecma_hygiene.specs.Ids.{Id, has_context, innermost, is_block, is_body_block, own_ids}
 use Rattle.ecma_hygiene.specs.Sights.{Around, own_scope}
 use Rattle.ecma_hygiene.proofs.Telling.{and-left, has-id, true-false}
-use Rattle.ecma_hygiene_scopes.specs.Apart.{DeclaresCleanly, IsScoped, own_contexts}
+use Rattle.ecma_hygiene_scopes.specs.Apart.{DeclaresCleanly, HasOneContext, IsScoped, own_contexts}
 use Rattle.ecma_hygiene_scopes.specs.DeclaredIds.{DeclaredId, id_here, ids_declared, scope_ids}
 use Rattle.ecma_hygiene_scopes.specs.Lasting.{KeepsScope}
+use Rattle.ecma_hygiene_scopes.specs.Once.{DeclaresTextsOnce}
 use Rattle.ecma_hygiene_scopes.specs.Stops.{Stop}
 use Rattle.ecma_hygiene_scopes.proofs.Forms.{Allowed, Formed, forms-by}
 use Rattle.ecma_hygiene_scopes.proofs.Membership.{contexts-agree, is_kept, own-agrees}
@@ -115,20 +116,37 @@ stop_of n a left = record { node = n; around = a; left = left }
 abbrev pub IsScopedIn : Bool → ℕ → Stop → Type 0
 IsScopedIn t free stop = (t && is_this_ident (out-Node stop.node).kind) ≡ false → IsScoped free stop
 
-module _ (t : Bool) (free : ℕ) (n m : Node) (a b : Around) (left less : ℕ) (kind_st : (out-Node m).kind ≡ plain_kind (out-Node n).kind) (absent : is_absent (out-Node n).kind ≡ true → (out-Node m).children ≡ [])
-    (alike : Alike a.role b.role (out-Node n).kind) (same : AreSame t a.scopes b.scopes) (opened : opens b.role m ≡ opens a.role n)
-    (ids : opens a.role n ≡ true → scope_ids b.role m ≡ lasting t (scope_ids a.role n)) (keep : KeepsScope free (stop_of n a left)) where
+-- a node with what stands around it, and what it is without types: its scope declares what lasts, and the scopes around declare the same
+pub record Matches (t : Bool) (x y : Stop) : Type 0 where
+  pub is : (out-Node y.node).kind ≡ plain_kind (out-Node x.node).kind
+  pub bare : is_absent (out-Node x.node).kind ≡ true → (out-Node x.node).children ≡ [] → (out-Node y.node).children ≡ []
+  pub alike : Alike x.around.role y.around.role (out-Node x.node).kind
+  pub same : AreSame t x.around.scopes y.around.scopes
+  pub opened : opens y.around.role y.node ≡ opens x.around.role x.node
+  pub ids : opens x.around.role x.node ≡ true → scope_ids y.around.role y.node ≡ lasting t (scope_ids x.around.role x.node)
+
+-- what is there for nothing
+pub record IsSilent (y : Stop) : Type 0 where
+  pub none : (out-Node y.node).children ≡ []
+  pub shut : opens y.around.role y.node ≡ false
+  pub no_name : (s : List ℕ) (c : ℕ) (o : Bool) → (out-Node y.node).kind ≡ kind.Ident s c o → ⊥
+
+-- a stop of the tree without types comes from one of the tree, of which this is known, or is there for nothing
+abbrev pub Comes : Bool → (Stop → Type 0) → Stop → Type 0
+Comes t P y = IsSilent y ⊎ ((x : Stop) × P x × Matches t x y)
+
+module _ (t : Bool) (n m : Node) (a b : Around) (left less : ℕ) (matched : Matches t (stop_of n a left) (stop_of m b less)) where
   abbrev body_same : is_body_block b.role (out-Node m).kind ≡ is_body_block a.role (out-Node n).kind
-  body_same = ap (is_body_block b.role) kind_st ∙ plain-body b.role (out-Node n).kind ∙ alike.body
+  body_same = ap (is_body_block b.role) matched.is ∙ plain-body b.role (out-Node n).kind ∙ matched.alike.body
 
   block-same : is_block (out-Node m).kind ≡ is_block (out-Node n).kind
-  block-same = ap is_block kind_st ∙ plain-block (out-Node n).kind
+  block-same = ap is_block matched.is ∙ plain-block (out-Node n).kind
 
   pub own-same : opens a.role n ≡ true → IsSame t (own_scope a.role a.scopes n) (own_scope b.role b.scopes m)
   own-same is id other =
       own-agrees id b.role b.scopes m
-      ∙ (λ j. list_any (is_kept id) (ids is j) && not (body_same j && has_context id.1 (innermost b.scopes id.0)))
-      ∙ ap₂ (λ (x y : Bool). x && not (is_body_block a.role (out-Node n).kind && y)) (any-kept t id (scope_ids a.role n) other) (same-innermost t a.scopes b.scopes same id other)
+      ∙ (λ j. list_any (is_kept id) (matched.ids is j) && not (body_same j && has_context id.1 (innermost b.scopes id.0)))
+      ∙ ap₂ (λ (x y : Bool). x && not (is_body_block a.role (out-Node n).kind && y)) (any-kept t id (scope_ids a.role n) other) (same-innermost t a.scopes b.scopes matched.same id other)
       ∙ sym (own-agrees id a.role a.scopes n)
 
   -- no text that goes is declared without types
@@ -142,7 +160,7 @@ module _ (t : Bool) (free : ℕ) (n m : Node) (a b : Around) (left less : ℕ) (
 
       by : (b : Bool) → goes t id.0 ≡ b → b ≡ false
       by false gone = refl
-      by true gone = absurd (true-false (sym (ap (list_any (is_kept id)) (ids is)) ∙ named) (none-kept t id (lasting t (scope_ids a.role n)) gone (kept-other t (scope_ids a.role n))))
+      by true gone = absurd (true-false (sym (ap (list_any (is_kept id)) (matched.ids is)) ∙ named) (none-kept t id (lasting t (scope_ids a.role n)) gone (kept-other t (scope_ids a.role n))))
 
   contexts-by : (x : Bool) → opens a.role n ≡ x → (c : ℕ) → has_context c (cond x (map (λ id. id.1) (own_ids b.role (innermost b.scopes) m)) []) ≡ true
       → has_context c (cond x (map (λ id. id.1) (own_ids a.role (innermost a.scopes) n)) []) ≡ true
@@ -157,52 +175,69 @@ module _ (t : Bool) (free : ℕ) (n m : Node) (a b : Around) (left less : ℕ) (
   -- it declares in contexts in which the other does
   pub contexts-within : (c : ℕ) → has_context c (own_contexts (stop_of m b less)) ≡ true → has_context c (own_contexts (stop_of n a left)) ≡ true
   contexts-within c h =
-      contexts-by' c (sym (ap (λ (x : Bool). has_context c (cond x (map (λ id. id.1) (own_ids b.role (innermost b.scopes) m)) [])) opened) ∙ h)
+      contexts-by' c (sym (ap (λ (x : Bool). has_context c (cond x (map (λ id. id.1) (own_ids b.role (innermost b.scopes) m)) [])) matched.opened) ∙ h)
     where
       contexts-by' : (c : ℕ) → has_context c (cond (opens a.role n) (map (λ id. id.1) (own_ids b.role (innermost b.scopes) m)) []) ≡ true → has_context c (own_contexts (stop_of n a left)) ≡ true
       contexts-by' c = contexts-by (opens a.role n) refl c
 
-  abbrev Blocks : Node → DeclaredId → Type 0
-  Blocks node d = is_hoisted d.form ≡ true → is_block (out-Node node).kind ≡ true
+  -- and in one context, where that one does
+  pub one-within : HasOneContext (stop_of n a left) → HasOneContext (stop_of m b less)
+  one-within one c d h k = one c d (contexts-within c h) (contexts-within d k)
 
-  blocks-by : opens a.role n ≡ true → (a.role ≡ role.Body) ⊎ ((a.role ≡ role.Plain) × (is_expr (out-Node n).kind ≡ true)) → All (Blocks n) (scope_ids a.role n)
-  blocks-by is (inl body) = keep.blocks is body
-  blocks-by is (inr plain) =
-      subst (λ (r : Role). All (Blocks n) (scope_ids r n)) (sym plain.0) (λ k d lt hoisted. absurd (unhoisted n plain.1 (subst (λ (r : Role). opens r n ≡ true) plain.0 is) k d lt hoisted))
-
-  cleanly : opens a.role n ≡ true → DeclaresCleanly (stop_of m b less)
-  cleanly is = record {
-    stay = subst (All (λ (d : DeclaredId). d.stays ≡ true)) (sym (ids is)) (kept-stays t (scope_ids a.role n));
-    blocks = λ body. (λ k d lt hoisted. block-same ∙ subst (All (Blocks n)) (sym (ids is)) (all-kept t (Blocks n) (scope_ids a.role n) (blocks-by is (alike.blocks body))) k d lt hoisted);
-    parameters = λ body.
-        (λ k d lt has. subst (All (λ (d : DeclaredId). has_context d.id.1 (innermost a.scopes d.id.0) ≡ true → is_hoisted d.form ≡ true)) (sym (ids is))
-        (all-kept t (λ (d : DeclaredId). has_context d.id.1 (innermost a.scopes d.id.0) ≡ true → is_hoisted d.form ≡ true) (scope_ids a.role n) (keep.parameters is (sym body_same ∙ body))) k d lt
-        (sym (same-innermost t a.scopes b.scopes same (get_or (scope_ids b.role m) k d).id (subst (All (Stay t)) (sym (ids is)) (kept-other t (scope_ids a.role n)) k d lt)) ∙ has));
-  }
-
-  by-test : (x : Bool) → (x ≡ true → ⊥) → x ≡ false
-  by-test true never = absurd (never refl)
-  by-test false never = refl
-
-  pub is-scoped : IsScopedIn t free (stop_of m b less)
-  is-scoped other = record {
-    absent = λ gone. absent (sym (plain-absent (out-Node n).kind) ∙ sym (ap is_absent kind_st) ∙ gone);
-    names = λ s c o is name. (let was = plain-ident (out-Node n).kind s c o (sym kind_st ∙ is) in keep.names s c was.0 was.1 (sym alike.name ∙ name));
-    free_names = λ s c o is name none. (let was = plain-ident (out-Node n).kind s c o (sym kind_st ∙ is) in keep.free_names s c was.0 was.1 (sym alike.name ∙ name) (same-none t a.scopes b.scopes (s, c) (sym (ap (λ (k : Kind). t && is_this_ident k) is) ∙ other) same none));
-    declares = λ is. cleanly (sym opened ∙ is);
-    one = λ c d h k. keep.one c d (contexts-within c h) (contexts-within d k);
-    not_free = by-test (has_context free (own_contexts (stop_of m b less))) (λ h. true-false (contexts-within free h) keep.not_free);
-    not_empty = by-test (has_context 0 (own_contexts (stop_of m b less))) (λ h. true-false (contexts-within 0 h) keep.not_empty);
-  }
+  -- it declares each text once, where that one does, of what was not made
+  pub once-within : (made made_after : Id → Bool) → ((id : Id) → made_after id ≡ false → made id ≡ false) → DeclaresTextsOnce made n a → DeclaresTextsOnce made_after m b
+  once-within made made_after still once is text c d h k old also =
+      let before : opens a.role n ≡ true = sym matched.opened ∙ is in
+      once before text c d (there before c h) (there before d k) (still (text, c) old) (still (text, d) also)
+    where
+      there : opens a.role n ≡ true → (e : ℕ) → has_context e (own_scope b.role b.scopes m text) ≡ true → has_context e (own_scope a.role a.scopes n text) ≡ true
+      there before e has =
+          let id : Id = (text, e) in
+          sym (own-same before id (stays-there before id (sym (contexts-agree id (own_ids b.role (innermost b.scopes) m)) ∙ has))) ∙ has
 
   -- and what stands in it stands in scopes that declare the same
   pub scopes-inside : (i j : ℕ) → covers b.role (out-Node m).kind j ≡ covers a.role (out-Node n).kind i
       → AreSame t (cond (opens a.role n && covers a.role (out-Node n).kind i) (a.scopes ++ own_scope a.role a.scopes n ∷ []) a.scopes) (cond (opens b.role m && covers b.role (out-Node m).kind j) (b.scopes ++ own_scope b.role b.scopes m ∷ []) b.scopes)
   scopes-inside i j covered =
       subst (λ (x : Bool). AreSame t (cond (opens a.role n && covers a.role (out-Node n).kind i) (a.scopes ++ own_scope a.role a.scopes n ∷ []) a.scopes) (cond x (b.scopes ++ own_scope b.role b.scopes m ∷ []) b.scopes))
-      (sym (λ j. opened j && covered j)) (by (opens a.role n) (covers a.role (out-Node n).kind i) refl)
+      (sym (λ j. matched.opened j && covered j)) (by (opens a.role n) (covers a.role (out-Node n).kind i) refl)
     where
       by : (x y : Bool) → opens a.role n ≡ x → AreSame t (cond (x && y) (a.scopes ++ own_scope a.role a.scopes n ∷ []) a.scopes) (cond (x && y) (b.scopes ++ own_scope b.role b.scopes m ∷ []) b.scopes)
-      by true true is = same-last t a.scopes b.scopes (own_scope a.role a.scopes n) (own_scope b.role b.scopes m) same (own-same is)
-      by true false is = same
-      by false y is = same
+      by true true is = same-last t a.scopes b.scopes (own_scope a.role a.scopes n) (own_scope b.role b.scopes m) matched.same (own-same is)
+      by true false is = matched.same
+      by false y is = matched.same
+
+  -- where that one keeps its scope, it is scoped
+  module _ (free : ℕ) (keep : KeepsScope free (stop_of n a left)) where
+    abbrev Blocks : Node → DeclaredId → Type 0
+    Blocks node d = is_hoisted d.form ≡ true → is_block (out-Node node).kind ≡ true
+
+    blocks-by : opens a.role n ≡ true → (a.role ≡ role.Body) ⊎ ((a.role ≡ role.Plain) × (is_expr (out-Node n).kind ≡ true)) → All (Blocks n) (scope_ids a.role n)
+    blocks-by is (inl body) = keep.blocks is body
+    blocks-by is (inr plain) =
+        subst (λ (r : Role). All (Blocks n) (scope_ids r n)) (sym plain.0) (λ k d lt hoisted. absurd (unhoisted n plain.1 (subst (λ (r : Role). opens r n ≡ true) plain.0 is) k d lt hoisted))
+
+    cleanly : opens a.role n ≡ true → DeclaresCleanly (stop_of m b less)
+    cleanly is = record {
+      stay = subst (All (λ (d : DeclaredId). d.stays ≡ true)) (sym (matched.ids is)) (kept-stays t (scope_ids a.role n));
+      blocks = λ body. (λ k d lt hoisted. block-same ∙ subst (All (Blocks n)) (sym (matched.ids is)) (all-kept t (Blocks n) (scope_ids a.role n) (blocks-by is (matched.alike.blocks body))) k d lt hoisted);
+      parameters = λ body.
+          (λ k d lt has. subst (All (λ (d : DeclaredId). has_context d.id.1 (innermost a.scopes d.id.0) ≡ true → is_hoisted d.form ≡ true)) (sym (matched.ids is))
+          (all-kept t (λ (d : DeclaredId). has_context d.id.1 (innermost a.scopes d.id.0) ≡ true → is_hoisted d.form ≡ true) (scope_ids a.role n) (keep.parameters is (sym body_same ∙ body))) k d lt
+          (sym (same-innermost t a.scopes b.scopes matched.same (get_or (scope_ids b.role m) k d).id (subst (All (Stay t)) (sym (matched.ids is)) (kept-other t (scope_ids a.role n)) k d lt)) ∙ has));
+    }
+
+    by-test : (x : Bool) → (x ≡ true → ⊥) → x ≡ false
+    by-test true never = absurd (never refl)
+    by-test false never = refl
+
+    pub is-scoped : IsScopedIn t free (stop_of m b less)
+    is-scoped other = record {
+      absent = λ gone. (let was = sym (plain-absent (out-Node n).kind) ∙ sym (ap is_absent matched.is) ∙ gone in matched.bare was (keep.absent was));
+      names = λ s c o is name. (let was = plain-ident (out-Node n).kind s c o (sym matched.is ∙ is) in keep.names s c was.0 was.1 (sym matched.alike.name ∙ name));
+      free_names = λ s c o is name none. (let was = plain-ident (out-Node n).kind s c o (sym matched.is ∙ is) in
+          keep.free_names s c was.0 was.1 (sym matched.alike.name ∙ name) (same-none t a.scopes b.scopes (s, c) (sym (ap (λ (k : Kind). t && is_this_ident k) is) ∙ other) matched.same none));
+      declares = λ is. cleanly (sym matched.opened ∙ is);
+      not_free = by-test (has_context free (own_contexts (stop_of m b less))) (λ h. true-false (contexts-within free h) keep.not_free);
+      not_empty = by-test (has_context 0 (own_contexts (stop_of m b less))) (λ h. true-false (contexts-within 0 h) keep.not_empty);
+    }

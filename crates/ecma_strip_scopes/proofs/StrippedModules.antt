@@ -9,7 +9,7 @@ use Rattle.ecma_hygiene_scopes.proofs.ResolvedApart.{resolved-keeps-apart}
 use Rattle.ecma_strip_scopes.specs.Apart.{IsWrapped}
 use Rattle.ecma_strip_scopes.specs.Laws.{StrippedModulesTellScopesApart}
 use Rattle.ecma_strip_scopes.proofs.StayingSeats.{staying-among}
-use Rattle.ecma_strip_scopes.proofs.Walking.{stripped-tells-apart}
+use Rattle.ecma_strip_scopes.proofs.StrippedScopes.{stripped-tells-apart}
 use Rattle.ecma_strip_scopes.proofs.Wrapping.{module-wraps}
 
 pub stripped-modules-tell-apart : StrippedModulesTellScopesApart

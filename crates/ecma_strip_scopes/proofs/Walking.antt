@@ -1,5 +1,5 @@
 -- The walk over the tree without types comes to a part of the stops of the tree, in scopes that declare the same.
-use Rattle.std.proofs.Common.{◌≡◌, ℕ, zero, suc, ◌-◌, Bool, true, false, ◌&&◌, not, cond, filter, List, [], ◌∷◌, ◌++◌, map, length, replicate, refl, sym, ap, ◌∙◌, subst}
+use Rattle.std.proofs.Common.{◌≡◌, inl, inr, ℕ, zero, suc, ◌-◌, Bool, true, false, ◌&&◌, not, cond, filter, List, [], ◌∷◌, ◌++◌, map, length, replicate, refl, sym, ap, ◌∙◌, subst}
 use Rattle.std.specs.List.{All}
 use Rattle.std.proofs.lemmas.List.Elements.{All-append, All-cons, All-head, All-nil, All-tail}
 use Rattle.ecma_kind.specs.Sorts.{is_type_wrapper}
@@ -23,20 +23,17 @@ use Rattle.ecma_scope.specs.Scopes.{covers, is_there, opens, opens_by, role_by, 
 use Rattle.ecma_strip.specs.Staying.{is_empty_stmt, item_stays, stays}
 use Rattle.ecma_strip.specs.Stripping.{body_of, changed_at, plain, plain_children, plain_kind, staying_nodes, stripped, without_empty, without_this}
 use Rattle.ecma_strip.proofs.Stripping.{stripped-out}
-use Rattle.ecma_hygiene.specs.Ids.{Scope, has_context, innermost, own_ids}
+use Rattle.ecma_hygiene.specs.Ids.{Scope, innermost, own_ids}
 use Rattle.ecma_hygiene.specs.Sights.{Around, around_child, nowhere, own_scope}
 use Rattle.ecma_hygiene.proofs.Telling.{true-false}
-use Rattle.ecma_hygiene_scopes.specs.Apart.{IsScoped, own_contexts}
+use Rattle.ecma_hygiene_scopes.specs.Apart.{own_contexts}
 use Rattle.ecma_hygiene_scopes.specs.DeclaredIds.{ids_declared, scope_ids}
-use Rattle.ecma_hygiene_scopes.specs.Lasting.{KeepsScope}
 use Rattle.ecma_hygiene_scopes.specs.Seats.{Seat}
 use Rattle.ecma_hygiene_scopes.specs.Stops.{Stop, stops, stops_at, stops_from}
 use Rattle.ecma_hygiene_scopes.proofs.Parts.{children-of, kind-of, parts_of}
 use Rattle.ecma_hygiene_scopes.proofs.Stopping.{All-first, All-second, stops-out}
-use Rattle.ecma_strip_scopes.specs.Apart.{IsClearSeat, IsOther, IsWrapped}
-use Rattle.ecma_strip_scopes.specs.Laws.{StrippedTellsScopesApart}
+use Rattle.ecma_strip_scopes.specs.Apart.{IsClearSeat, IsWrapped}
 use Rattle.ecma_strip_scopes.specs.Staying.{staying_seats}
-use Rattle.ecma_strip_scopes.proofs.AtStops.{at-stops}
 use Rattle.ecma_strip_scopes.proofs.Declared.{not-list}
 use Rattle.ecma_strip_scopes.proofs.Going.{parts-have}
 use Rattle.ecma_strip_scopes.proofs.Lasting.{lasting}
@@ -47,7 +44,7 @@ use Rattle.ecma_strip_scopes.proofs.ScopesSame.{AreSame}
 use Rattle.ecma_strip_scopes.proofs.Seeking.{Becomes, becomes, itself, list, typed, wrapper}
 use Rattle.ecma_strip_scopes.proofs.Standing.{list-kind}
 use Rattle.ecma_strip_scopes.proofs.StayingSeats.{staying-first, staying-out, staying-rest, staying_below}
-use Rattle.ecma_strip_scopes.proofs.StopsKept.{IsScopedIn, contexts-within, is-scoped, scopes-inside, stop_of}
+use Rattle.ecma_strip_scopes.proofs.StopsKept.{Comes, IsSilent, Matches, contexts-within, scopes-inside, stop_of}
 use Rattle.ecma_strip_scopes.proofs.Thinning.{Thins, thins-again, thins-append, thins-cons, thins-empty, thins-front, thins-none, thins-same, thins-skip}
 
 map-append : {X Y : Type 0} (f : X → Y) (xs ys : List X) → map f (xs ++ ys) ≡ map f xs ++ map f ys
@@ -85,20 +82,20 @@ role-ids r r' k alike m kind_st =
 abbrev IsFine : Bool → Seat → Type 0
 IsFine t seat = IsClearSeat t seat × IsWrapped seat
 
-module _ (t : Bool) (free : ℕ) where
+module _ (t : Bool) (P : Stop → Type 0) where
   abbrev contexts_at : List Stop → List (List ℕ)
   contexts_at stops = map own_contexts stops
 
-  -- stops at which all is scoped, and which declare in a part of these contexts
+  -- stops that come from those of the tree, and which declare in a part of these contexts
   abbrev Part : List Stop → List (List ℕ) → Type 0
-  Part stops lists = All (IsScopedIn t free) stops × Thins (contexts_at stops) lists
+  Part stops lists = All (Comes t P) stops × Thins (contexts_at stops) lists
 
   abbrev below : (ℕ → Around) → ℕ → List Node → ℕ → List Stop
   below around i ns left = stops_from around i ns (map stops_at ns) left
 
   part-append : (xs ys : List Stop) (us vs : List (List ℕ)) → Part xs us → Part ys vs → Part (xs ++ ys) (us ++ vs)
   part-append xs ys us vs one two = (
-    All-append (IsScopedIn t free) xs ys one.0 two.0,
+    All-append (Comes t P) xs ys one.0 two.0,
     subst (λ (z : List (List ℕ)). Thins z (us ++ vs)) (sym (map-append own_contexts xs ys)) (thins-append (contexts_at xs) (contexts_at ys) us vs one.1 two.1),
   )
 
@@ -107,30 +104,22 @@ module _ (t : Bool) (free : ℕ) where
 
   -- ---- what is there for nothing
 
-  silent-part : (m : Node) (b : Around) (less : ℕ) (lists : List (List ℕ)) → (out-Node m).children ≡ [] → opens b.role m ≡ false → ((s : List ℕ) (c : ℕ) (o : Bool) → (out-Node m).kind ≡ kind.Ident s c o → ⊥) → Part (stops_at m b less) lists
-  silent-part m b less lists none shut no_name =
+  silent-part : (m : Node) (b : Around) (less : ℕ) (lists : List (List ℕ)) → IsSilent (stop_of m b less) → Part (stops_at m b less) lists
+  silent-part m b less lists silent =
       subst (λ (z : List Stop). Part z lists)
-      (sym (stops-out m b less ∙ ap (λ (cs : List Node). stop_of m b less ∷ below (around_child b m) 0 cs (less - taken b.role m)) none))
-      (All-cons (IsScopedIn t free) (stop_of m b less) [] (λ other. scoped) (All-nil (IsScopedIn t free)), subst (λ (z : List ℕ). Thins (z ∷ []) lists) (sym nothing) (thins-empty lists))
+      (sym (stops-out m b less ∙ ap (λ (cs : List Node). stop_of m b less ∷ below (around_child b m) 0 cs (less - taken b.role m)) silent.none))
+      (All-cons (Comes t P) (stop_of m b less) [] (inl silent) (All-nil (Comes t P)), subst (λ (z : List ℕ). Thins (z ∷ []) lists) (sym nothing) (thins-empty lists))
     where
       nothing : own_contexts (stop_of m b less) ≡ []
-      nothing = (λ j. cond (shut j) (map (λ id. id.1) (own_ids b.role (innermost b.scopes) m)) [])
-
-      scoped : IsScoped free (stop_of m b less)
-      scoped = record {
-        absent = λ is. none;
-        names = λ s c o is name. absurd (no_name s c o is);
-        free_names = λ s c o is name other. absurd (no_name s c o is);
-        declares = λ is. absurd (true-false is shut);
-        one = λ c d h k. absurd (true-false h (ap (has_context c) nothing));
-        not_free = ap (has_context free) nothing;
-        not_empty = ap (has_context 0) nothing;
-      }
+      nothing = (λ j. cond (silent.shut j) (map (λ id. id.1) (own_ids b.role (innermost b.scopes) m)) [])
 
   quiet-part : (span : Span) (k : Kind) (b : Around) (less : ℕ) (lists : List (List ℕ)) → ((named : Bool) → opens_by b.role k named ≡ false) → ((s : List ℕ) (c : ℕ) (o : Bool) → k ≡ kind.Ident s c o → ⊥) → Part (stops_at (node_of span k []) b less) lists
   quiet-part span k b less lists shut no_name =
-      silent-part (node_of span k []) b less lists (children-of span k []) (ap (λ (z : Kind). opens_by b.role z (is_there (out-Node (node_of span k [])).children 0)) (kind-of span k []) ∙ shut (is_there (out-Node (node_of span k [])).children 0))
-      (λ s c o is. no_name s c o (sym (kind-of span k []) ∙ is))
+      silent-part (node_of span k []) b less lists (record {
+        none = children-of span k [];
+        shut = ap (λ (z : Kind). opens_by b.role z (is_there (out-Node (node_of span k [])).children 0)) (kind-of span k []) ∙ shut (is_there (out-Node (node_of span k [])).children 0);
+        no_name = λ s c o is. no_name s c o (sym (kind-of span k []) ∙ is);
+      })
 
   absent-part : (b : Around) (less : ℕ) (lists : List (List ℕ)) → Part (stops_at absent b less) lists
   unfolding opens_by
@@ -150,7 +139,7 @@ module _ (t : Bool) (free : ℕ) where
 
   -- a node is walked over olds this one is without its types
   abbrev Becoming : Node → Node → Type 0
-  Becoming n m = (shape : Shape) (a b : Around) (left less : ℕ) → HasShape shape n → Alike a.role b.role (out-Node n).kind → AreSame t a.scopes b.scopes → All (KeepsScope free) (stops_at n a left)
+  Becoming n m = (shape : Shape) (a b : Around) (left less : ℕ) → HasShape shape n → Alike a.role b.role (out-Node n).kind → AreSame t a.scopes b.scopes → All P (stops_at n a left)
       → All (IsFine t) (staying_seats n a.role) → Part (stops_at m b less) (contexts_at (stops_at n a left))
 
   abbrev Walks : Node → Type 0
@@ -236,7 +225,7 @@ module _ (t : Bool) (free : ℕ) where
     skipped i left n ns xs rest =
         let later : List Stop = below olds (suc i) ns (left - context_count n (olds i).role) in
         subst (Part xs) (sym (map-append own_contexts (stops_at n (olds i) left) later))
-        (part-append [] xs (contexts_at (stops_at n (olds i) left)) (contexts_at later) (All-nil (IsScopedIn t free), thins-none (contexts_at (stops_at n (olds i) left))) rest)
+        (part-append [] xs (contexts_at (stops_at n (olds i) left)) (contexts_at later) (All-nil (Comes t P), thins-none (contexts_at (stops_at n (olds i) left))) rest)
 
     alike-at : (i j : ℕ) (k : Kind) → (news j).role ≡ (olds i).role → Alike (olds i).role (news j).role k
     alike-at i j k roles = subst (λ (r : Role). Alike (olds i).role r k) (sym roles) (alike-same (olds i).role k)
@@ -245,15 +234,15 @@ module _ (t : Bool) (free : ℕ) where
     abbrev fine_below : Bool → ℕ → List Node → Type 0
     fine_below listed i ns = All (IsFine t) (staying_below listed (λ j. (olds j).role) i ns)
 
-    walk-all : (ns ms : List Node) (shapes : List Shape) → ((i : ℕ) → (news i).role ≡ (olds i).role) → ((i : ℕ) → AreSame t (olds i).scopes (news i).scopes) → AllBecome ns ms → HaveShapes shapes ns → (i left less : ℕ) → All (KeepsScope free) (below olds i ns left)
+    walk-all : (ns ms : List Node) (shapes : List Shape) → ((i : ℕ) → (news i).role ≡ (olds i).role) → ((i : ℕ) → AreSame t (olds i).scopes (news i).scopes) → AllBecome ns ms → HaveShapes shapes ns → (i left less : ℕ) → All P (below olds i ns left)
         → fine_below false i ns → Part (below news i ms less) (contexts_at (below olds i ns left))
-    walk-all [] [] shapes roles scopes become have i left less keeps fine = (All-nil (IsScopedIn t free), thins-none [])
+    walk-all [] [] shapes roles scopes become have i left less keeps fine = (All-nil (Comes t P), thins-none [])
     walk-all (n ∷ ns) (m ∷ ms) (s ∷ shapes) roles scopes become have i left less keeps fine =
         let here : List Stop = stops_at n (olds i) left in
         let later : List Stop = below olds (suc i) ns (left - context_count n (olds i).role) in
         joined i left i less n m ns ms
-        (become.0 s (olds i) (news i) left less have.0 (alike-at i i (out-Node n).kind (roles i)) (scopes i) (All-first (KeepsScope free) here later keeps) (staying-first (IsFine t) false (λ j. (olds j).role) i n ns refl fine))
-        (walk-all ns ms shapes roles scopes become.1 have.1 (suc i) (left - context_count n (olds i).role) (less - context_count m (news i).role) (All-second (KeepsScope free) here later keeps)
+        (become.0 s (olds i) (news i) left less have.0 (alike-at i i (out-Node n).kind (roles i)) (scopes i) (All-first P here later keeps) (staying-first (IsFine t) false (λ j. (olds j).role) i n ns refl fine))
+        (walk-all ns ms shapes roles scopes become.1 have.1 (suc i) (left - context_count n (olds i).role) (less - context_count m (news i).role) (All-second P here later keeps)
         (staying-rest (IsFine t) false (λ j. (olds j).role) i n ns fine))
     walk-all [] (m ∷ ms) shapes roles scopes become have i left less keeps fine = absurd become
     walk-all (n ∷ ns) [] shapes roles scopes become have i left less keeps fine = absurd become
@@ -264,7 +253,7 @@ module _ (t : Bool) (free : ℕ) where
       abbrev left_of : List Node → List Node
       left_of ns = filter test (map stripped (filter stays ns))
 
-      item-by : (n : (n : Node) × Walks n) (ns : List Node) → HasShape shape n.0 → (s : Bool) → (i j left less : ℕ) → All (KeepsScope free) (stops_at n.0 (olds i) left) → (s ≡ true → All (IsFine t) (staying_seats n.0 (olds i).role))
+      item-by : (n : (n : Node) × Walks n) (ns : List Node) → HasShape shape n.0 → (s : Bool) → (i j left less : ℕ) → All P (stops_at n.0 (olds i) left) → (s ≡ true → All (IsFine t) (staying_seats n.0 (olds i).role))
           → ((j less : ℕ) → Part (below news j (left_of ns) less) (contexts_at (below olds (suc i) ns (left - context_count n.0 (olds i).role))))
           → Part (below news j (filter test (map stripped (cond s (n.0 ∷ filter stays ns) (filter stays ns)))) less) (contexts_at (below olds i (n.0 ∷ ns) left))
       item-by n ns has false i j left less keeps fine rest = skipped i left n.0 ns (below news j (left_of ns) less) (rest j less)
@@ -276,21 +265,21 @@ module _ (t : Bool) (free : ℕ) where
               (rest (suc j) (less - context_count (stripped n.0) (news j).role))
           by false = skipped i left n.0 ns (below news j (left_of ns) less) (rest j less)
 
-      walk-items : (ns : List ((n : Node) × Walks n)) → HaveShapes (replicate (length (nodes ns)) shape) (nodes ns) → (i j left less : ℕ) → All (KeepsScope free) (below olds i (nodes ns) left) → fine_below true i (nodes ns)
+      walk-items : (ns : List ((n : Node) × Walks n)) → HaveShapes (replicate (length (nodes ns)) shape) (nodes ns) → (i j left less : ℕ) → All P (below olds i (nodes ns) left) → fine_below true i (nodes ns)
           → Part (below news j (left_of (nodes ns)) less) (contexts_at (below olds i (nodes ns) left))
-      walk-items [] have i j left less keeps fine = (All-nil (IsScopedIn t free), thins-none [])
+      walk-items [] have i j left less keeps fine = (All-nil (Comes t P), thins-none [])
       walk-items (n ∷ ns) have i j left less keeps fine =
           let here : List Stop = stops_at n.0 (olds i) left in
           let fewer : ℕ = left - context_count n.0 (olds i).role in
           let later : List Stop = below olds (suc i) (nodes ns) fewer in
           let roles_of : ℕ → Role = (λ j. (olds j).role) in
-          item-by n (nodes ns) have.0 (stays n.0) i j left less (All-first (KeepsScope free) here later keeps) (λ is. staying-first (IsFine t) true roles_of i n.0 (nodes ns) (ap not is) fine)
-          (λ j less. walk-items ns have.1 (suc i) j fewer less (All-second (KeepsScope free) here later keeps) (staying-rest (IsFine t) true roles_of i n.0 (nodes ns) fine))
+          item-by n (nodes ns) have.0 (stays n.0) i j left less (All-first P here later keeps) (λ is. staying-first (IsFine t) true roles_of i n.0 (nodes ns) (ap not is) fine)
+          (λ j less. walk-items ns have.1 (suc i) j fewer less (All-second P here later keeps) (staying-rest (IsFine t) true roles_of i n.0 (nodes ns) fine))
 
   -- ---- a node
 
   module _ (n : Node) (ns : List ((n : Node) × Walks n)) (are : (out-Node n).children ≡ nodes ns) (shape : Shape) (a b : Around) (left less : ℕ) (has : HasShape shape n) (alike : Alike a.role b.role (out-Node n).kind)
-      (same : AreSame t a.scopes b.scopes) (keeps : All (KeepsScope free) (stops_at n a left)) (fine : All (IsFine t) (staying_seats n a.role)) where
+      (same : AreSame t a.scopes b.scopes) (keeps : All P (stops_at n a left)) (fine : All (IsFine t) (staying_seats n a.role)) where
     abbrev k : Kind
     k = (out-Node n).kind
 
@@ -303,14 +292,14 @@ module _ (t : Bool) (free : ℕ) where
     stops-are : stops_at n a left ≡ stop_of n a left ∷ inner
     stops-are = stops-out n a left ∙ ap (λ (cs : List Node). stop_of n a left ∷ below (around_child a n) 0 cs fewer) are
 
-    keeps-parts : All (KeepsScope free) (stop_of n a left ∷ inner)
-    keeps-parts = subst (All (KeepsScope free)) stops-are keeps
+    keeps-parts : All P (stop_of n a left ∷ inner)
+    keeps-parts = subst (All P) stops-are keeps
 
-    keep : KeepsScope free (stop_of n a left)
-    keep = All-head (KeepsScope free) (stop_of n a left) inner keeps-parts
+    keep : P (stop_of n a left)
+    keep = All-head P (stop_of n a left) inner keeps-parts
 
-    keeps-inner : All (KeepsScope free) inner
-    keeps-inner = All-tail (KeepsScope free) (stop_of n a left) inner keeps-parts
+    keeps-inner : All P inner
+    keeps-inner = All-tail P (stop_of n a left) inner keeps-parts
 
     abbrev inner_seats : List Seat
     inner_seats = staying_below (is_list k) (role_in a.role n) 0 (nodes ns)
@@ -330,14 +319,13 @@ module _ (t : Bool) (free : ℕ) where
     have = subst (λ (cs : List Node). HaveShapes (child_shapes k shape (length cs)) cs) are (parts-have n shape has).1
 
     -- a node with this one's kind and with children that become of its own
-    node-part : (m : Node) → IsScopedIn t free (stop_of m b less) → ((c : ℕ) → has_context c (own_contexts (stop_of m b less)) ≡ true → has_context c (own_contexts (stop_of n a left)) ≡ true)
-        → Part (below (around_child b m) 0 (out-Node m).children (less - taken b.role m)) (contexts_at inner) → Part (stops_at m b less) (contexts_at (stops_at n a left))
-    node-part m scoped within children =
+    node-part : (m : Node) → Matches t (stop_of n a left) (stop_of m b less) → Part (below (around_child b m) 0 (out-Node m).children (less - taken b.role m)) (contexts_at inner) → Part (stops_at m b less) (contexts_at (stops_at n a left))
+    node-part m matched children =
         let inside : List Stop = below (around_child b m) 0 (out-Node m).children (less - taken b.role m) in
         subst (λ (z : List Stop). Part z (contexts_at (stops_at n a left))) (sym (stops-out m b less))
         (subst (λ (z : List Stop). Part (stop_of m b less ∷ inside) (contexts_at z)) (sym stops-are) (
-          All-cons (IsScopedIn t free) (stop_of m b less) inside scoped children.0,
-          thins-cons (own_contexts (stop_of m b less)) (own_contexts (stop_of n a left)) (contexts_at inside) (contexts_at inner) within children.1,
+          All-cons (Comes t P) (stop_of m b less) inside (inr (stop_of n a left, keep, matched)) children.0,
+          thins-cons (own_contexts (stop_of m b less)) (own_contexts (stop_of n a left)) (contexts_at inside) (contexts_at inner) (contexts-within t n m a b left less matched) children.1,
         ))
 
     itself-part : ((cs : List Node) → plain (out-Node n).span k cs ≡ node_of (out-Node n).span (plain_kind k) (plain_children k cs)) → is_list k ≡ false → Part (stops_at (stripped n) b less) (contexts_at (stops_at n a left))
@@ -355,10 +343,11 @@ module _ (t : Bool) (free : ℕ) where
         let roles : (i : ℕ) → role_in b.role m i ≡ role_in a.role n i = (λ i. (λ j. role_by b.role (kind_st j) (is_there (children_st j) 1) i) ∙ role-plain b.role k (is_there cs 1) i ∙ role-kept b.role k shape count (nodes ns) have i
         ∙ alike.inner (is_there (nodes ns) 1) i ∙ sym (ap (λ (z : List Node). role_by a.role k (is_there z 1) i) are)) in
         let ids : opens a.role n ≡ true → scope_ids b.role m ≡ lasting t (scope_ids a.role n) = (λ is. role-ids a.role b.role k alike m kind_st ∙ scopes-declare t shape a.role n has is (here.0 is).0 (here.0 is).1) in
-        let gone : is_absent k ≡ true → (out-Node m).children ≡ [] = (λ is. children_st ∙ absent-children k is (nodes ns) (sym are ∙ keep.absent is)) in
-        node-part m (is-scoped t free n m a b left less kind_st gone alike same opened ids keep) (contexts-within t free n m a b left less kind_st gone alike same opened ids keep)
+        let matched : Matches t (stop_of n a left) (stop_of m b less) =
+        record { is = kind_st; bare = λ is none. children_st ∙ absent-children k is (nodes ns) (sym are ∙ none); alike = alike; same = same; opened = opened; ids = ids } in
+        node-part m matched
         (subst (λ (z : List Node). Part (below (around_child b m) 0 z (less - taken b.role m)) (contexts_at inner)) (sym children_st)
-        (walk-all (around_child a n) (around_child b m) (nodes ns) cs (child_shapes k shape count) roles (λ i. scopes-inside t free n m a b left less kind_st gone alike same opened ids keep i i (covered i))
+        (walk-all (around_child a n) (around_child b m) (nodes ns) cs (child_shapes k shape count) roles (λ i. scopes-inside t n m a b left less matched i i (covered i))
         (plain-become k ns shape count have) have 0 fewer (less - taken b.role m) keeps-inner (fine-inner false no_list)))
 
     list-part : k ≡ kind.List → (test : Node → Bool) (m : Node) → m ≡ node_of (out-Node n).span kind.List (filter test (map stripped (filter stays (nodes ns)))) → Part (stops_at m b less) (contexts_at (stops_at n a left))
@@ -373,11 +362,12 @@ module _ (t : Bool) (free : ℕ) where
         let roles : (i j : ℕ) → role_in b.role m j ≡ role_in a.role n i = (λ i j. ap (λ (z : Kind). role_by b.role z (is_there (out-Node m).children 1) j) (kind_m ∙ sym is)
         ∙ list-role b.role k (is_there (out-Node m).children 1) (is_there (out-Node n).children 1) j i is ∙ alike.inner (is_there (out-Node n).children 1) i) in
         let ids : opens a.role n ≡ true → scope_ids b.role m ≡ lasting t (scope_ids a.role n) = (λ open_it. absurd (true-false open_it shut)) in
-        let gone : is_absent k ≡ true → (out-Node m).children ≡ [] = (λ h. absurd (true-false h (ap is_absent is))) in
-        node-part m (is-scoped t free n m a b left less kind_st gone alike same opened ids keep) (contexts-within t free n m a b left less kind_st gone alike same opened ids keep)
+        let matched : Matches t (stop_of n a left) (stop_of m b less) =
+        record { is = kind_st; bare = λ h none. absurd (true-false h (ap is_absent is)); alike = alike; same = same; opened = opened; ids = ids } in
+        node-part m matched
         (subst (λ (z : List Node). Part (below (around_child b m) 0 z (less - taken b.role m)) (contexts_at inner)) (sym children_st)
         (walk-items (around_child a n) (around_child b m) test (item_shape shape) roles
-        (λ i j. scopes-inside t free n m a b left less kind_st gone alike same opened ids keep i j (list-covers b.role (out-Node m).kind j kind_m ∙ sym (list-covers a.role k i is)))
+        (λ i j. scopes-inside t n m a b left less matched i j (list-covers b.role (out-Node m).kind j kind_m ∙ sym (list-covers a.role k i is)))
         ns (subst (λ (z : Kind). HaveShapes (child_shapes z shape (length (nodes ns))) (nodes ns)) is have) 0 0 fewer (less - taken b.role m) keeps-inner (fine-inner true (ap is_list is))))
 
     list-stripped : k ≡ kind.List → stripped n ≡ node_of (out-Node n).span kind.List (map stripped (filter stays (nodes ns)))
@@ -385,7 +375,7 @@ module _ (t : Bool) (free : ℕ) where
     list-stripped is = stripped-out n ∙ (λ j. plain (out-Node n).span (is j) (map stripped (staying_nodes (is j) (are j))))
 
     -- an expression with a type round it
-    wrapper-by : (ms : List ((n : Node) × Walks n)) → (out-Node n).children ≡ nodes ms → HaveShapes (child_shapes k shape (length (nodes ns))) (nodes ms) → All (KeepsScope free) (below (around_child a n) 0 (nodes ms) fewer)
+    wrapper-by : (ms : List ((n : Node) × Walks n)) → (out-Node n).children ≡ nodes ms → HaveShapes (child_shapes k shape (length (nodes ns))) (nodes ms) → All P (below (around_child a n) 0 (nodes ms) fewer)
         → All (IsFine t) (staying_below false (role_in a.role n) 0 (nodes ms))
         → is_type_wrapper k ≡ true → Part (stops_at (stripped n) b less) (contexts_at (below (around_child a n) 0 (nodes ms) fewer))
     wrapper-by [] children have_some all_keep all_fine is = absurd (wrapper-some k shape (length (nodes ns)) is have_some)
@@ -401,7 +391,7 @@ module _ (t : Bool) (free : ℕ) where
         let later : List Stop = below (around_child a n) 1 (nodes es) (fewer - context_count e.0 first.role) in
         subst (λ (z : Node). Part (stops_at z b less) (contexts_at (here_e ++ later))) (sym st)
         (part-of (stops_at (stripped e.0) b less) (contexts_at here_e) (contexts_at (here_e ++ later))
-        (e.1.0 (one sort.Expr) first b fewer less has_e alike_e (subst (λ (z : List Scope). AreSame t z b.scopes) (sym scopes_e) same) (All-first (KeepsScope free) here_e later all_keep)
+        (e.1.0 (one sort.Expr) first b fewer less has_e alike_e (subst (λ (z : List Scope). AreSame t z b.scopes) (sym scopes_e) same) (All-first P here_e later all_keep)
         (staying-first (IsFine t) false (role_in a.role n) 0 e.0 (nodes es) refl all_fine))
         (subst (Thins (contexts_at here_e)) (sym (map-append own_contexts here_e later)) (thins-front (contexts_at here_e) (contexts_at later))))
 
@@ -432,8 +422,9 @@ module _ (t : Bool) (free : ℕ) where
   pub all-become : (n : Node) → Becoming n (stripped n)
   all-become n = (walks n).0
 
-pub stripped-tells-apart : StrippedTellsScopesApart
-stripped-tells-apart t free left less shape tree has keeps clear wrapped others =
-    let part = all-become t free tree shape nowhere nowhere left less has (alike-same nowhere.role (out-Node tree).kind) tt keeps.scoped (λ k d lt. (clear k d lt, wrapped k d lt)) in
-    let other_stops = at-stops (IsOther t) (stripped tree) nowhere less others in
-    record { scoped = λ k d lt. part.0 k d lt (other_stops k d lt); apart = part.1.apart keeps.apart; there = keeps.there }
+-- each stop of the tree without types comes from one of the tree, in scopes that declare the same, or is there for nothing
+pub comes-from : (t : Bool) (P : Stop → Type 0) (count less : ℕ) (shape : Shape) (tree : Node) → HasShape shape tree → All P (stops count tree)
+    → All (IsClearSeat t) (staying_seats tree role.Root) → All IsWrapped (staying_seats tree role.Root)
+    → All (Comes t P) (stops less (stripped tree)) × Thins (map own_contexts (stops less (stripped tree))) (map own_contexts (stops count tree))
+comes-from t P count less shape tree has known clear wrapped =
+    all-become t P tree shape nowhere nowhere count less has (alike-same nowhere.role (out-Node tree).kind) tt known (λ k d lt. (clear k d lt, wrapped k d lt))

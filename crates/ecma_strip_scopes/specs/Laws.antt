@@ -4,7 +4,6 @@ use Rattle.std.specs.List.{All}
 use Rattle.ecma_kind.specs.declared.shapes.Shape.{Shape}
 use Rattle.ecma_tree.specs.Sorted.{HasShape}
 use Rattle.ecma_tree.specs.declared.node.Node.{Node}
-use Rattle.ecma_scope.specs.declared.form.Part.TheVariants as part
 use Rattle.ecma_scope.specs.declared.form.Sought.{Sought}
 use Rattle.ecma_strip.specs.Staying.{is_this_param, stays}
 use Rattle.ecma_hygiene_scopes.specs.DeclaredIds.{ids_declared, scope_ids}
@@ -13,8 +12,11 @@ use Rattle.ecma_scope.specs.declared.role.Role.{Role}
 use Rattle.ecma_scope.specs.declared.role.Role.TheVariants as role
 use Rattle.ecma_scope.specs.Resolved.{contexts, resolved}
 use Rattle.ecma_scope.specs.Scopes.{is_ambient, opens}
-use Rattle.ecma_hygiene_scopes.specs.Apart.{TellsScopesApart}
-use Rattle.ecma_hygiene_scopes.specs.Lasting.{IsCheckedModule, KeepsScopesApart}
+use Rattle.ecma_hygiene.specs.Ids.{Id}
+use Rattle.ecma_hygiene_scopes.specs.Apart.{IsScoped, TellsScopesApart}
+use Rattle.ecma_hygiene_scopes.specs.Lasting.{IsCheckedModule, KeepsScope, KeepsScopesApart}
+use Rattle.ecma_hygiene_scopes.specs.Once.{DeclaresTextsOnce}
+use Rattle.ecma_hygiene_scopes.specs.Stops.{Stop, stops}
 use Rattle.ecma_hygiene_scopes.specs.Seats.{seats_at}
 use Rattle.ecma_strip_scopes.specs.Staying.{staying_seats}
 use Rattle.ecma_strip_scopes.specs.Standing.{is_clear, lasts}
@@ -35,6 +37,19 @@ WhatStaysIsDeclared = (receivers : Bool) (shape : Shape) (tree : Node) (sought :
 abbrev pub ScopesDeclareWhatStays : Type 0
 ScopesDeclareWhatStays = (receivers : Bool) (shape : Shape) (r : Role) (n : Node) → HasShape shape n → opens r n ≡ true → is_ambient r ≡ false → IsClearScope receivers r n
     → scope_ids r (stripped n) ≡ filter (lasts receivers) (scope_ids r n)
+
+-- the ids of a tree, of which all that stays is clear, say without its types which scopes declare its names, where they said so of what stays, however its contexts are counted, and whichever
+-- scopes share contexts; where parameters `this` may go, no other `this` is left
+abbrev pub StrippedTreesSayTheirScopes : Type 0
+StrippedTreesSayTheirScopes = (receivers : Bool) (free left less : ℕ) (shape : Shape) (tree : Node) → HasShape shape tree → All (KeepsScope free) (stops left tree)
+    → All (IsClearSeat receivers) (staying_seats tree role.Root) → All IsWrapped (staying_seats tree role.Root)
+    → All (IsOther receivers) (seats_at (stripped tree) role.Root) → All (IsScoped free) (stops less (stripped tree))
+
+-- a scope of such a tree declares without its types each text once, where it did, but for what was made: of an id that is left, as much stands in the source as stays
+abbrev pub StrippedTreesDeclareTextsOnce : Type 0
+StrippedTreesDeclareTextsOnce = (receivers : Bool) (made left : Id → Bool) (count less : ℕ) (shape : Shape) (tree : Node) → HasShape shape tree → ((id : Id) → left id ≡ false → made id ≡ false)
+    → All (λ (stop : Stop). DeclaresTextsOnce made stop.node stop.around) (stops count tree) → All (IsClearSeat receivers) (staying_seats tree role.Root) → All IsWrapped (staying_seats tree role.Root)
+    → All (IsOther receivers) (seats_at (stripped tree) role.Root) → All (λ (stop : Stop). DeclaresTextsOnce left stop.node stop.around) (stops less (stripped tree))
 
 -- a tree that keeps its scopes apart, and of which all that stays is clear, tells them apart without its types, however its contexts are counted; where parameters
 -- `this` may go, no other `this` is left

@@ -1,7 +1,7 @@
 //! Small texts, read as TypeScript and as plain modules: what comes of them, and where they fail.
-use ecma_text::*;
 use ecma_grammar::{Mode, RawError};
 use ecma_reader::read_raw;
+use ecma_text::*;
 use ecma_tree::{Node, Sort, has_sort};
 use std::alloc::Global;
 use std::test::Fail;

@@ -1,6 +1,6 @@
 //! Scripts, events and endings are made and let go of.
-use ecma_runs::*;
 use ecma_number::JsNumber;
+use ecma_runs::*;
 use ecma_tree::{JsWord, NoMemory};
 use item_list::ItemList;
 use std::alloc::Global;

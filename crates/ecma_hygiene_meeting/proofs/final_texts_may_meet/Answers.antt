@@ -1,5 +1,0 @@
-use Rattle.ecma_hygiene_meeting.proofs.Meeting as law
-use Rattle.ecma_hygiene_meeting.proofs.final_texts_may_meet.Goals as goal
-
-pub returns : goal.returns
-returns c = law.final_texts_may_meet

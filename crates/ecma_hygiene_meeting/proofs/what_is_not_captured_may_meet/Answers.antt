@@ -1,5 +1,0 @@
-use Rattle.ecma_hygiene_meeting.proofs.Meeting as law
-use Rattle.ecma_hygiene_meeting.proofs.what_is_not_captured_may_meet.Goals as goal
-
-pub returns : goal.returns
-returns c = law.what_is_not_captured_may_meet

@@ -1,0 +1,8 @@
+mod Spelled
+mod SpelledNames
+mod Flags
+mod Seeking
+mod Asking
+mod Bare
+mod Runs
+mod Plain
