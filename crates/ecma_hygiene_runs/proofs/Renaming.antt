@@ -241,7 +241,7 @@ module _ (to : Id → Id) (m : Node) (renaming : Renames to m) where
   layer_kept kind.KeyValuePatProp cs o h p t = refl
   layer_kept kind.AssignPatProp (name ∷ default ∷ []) o h p t = (refl, listed name t)
   layer_kept kind.ObjectLit (properties ∷ []) o h p t = listed properties t
-  layer_kept (kind.Class is_abstract) (super ∷ body ∷ types ∷ super_types ∷ implements ∷ []) o h p t = listed body t
+  layer_kept (kind.Class is_abstract) (super ∷ body ∷ types ∷ super_types ∷ implements ∷ []) o h p t = (λ present. refl, listed body t)
   layer_kept (kind.ImportDecl type_only) (specifiers ∷ source ∷ attributes ∷ []) o h p t = listed source t
   layer_kept (kind.ImportNamedSpecifier is_type_only) (local ∷ name ∷ []) o h p t = import_kept local name (key_names name).is_name refl o t
   layer_kept (kind.Function false false) (parameters ∷ body ∷ types ∷ return_type ∷ []) o h p t = still parameters body p.1.0

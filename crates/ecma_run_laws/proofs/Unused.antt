@@ -74,7 +74,7 @@ module _ (gone : Id → Bool) (default : stands gone default_name ≡ true) (kno
   layer_kept kind.KeyValuePatProp cs h all = refl
   layer_kept kind.AssignPatProp (name ∷ default ∷ []) h all = (refl, texts_stay (meaning name).shorthands)
   layer_kept kind.ObjectLit (properties ∷ []) h all = texts_stay (meaning properties).shorthands
-  layer_kept (kind.Class is_abstract) (super ∷ body ∷ types ∷ super_types ∷ implements ∷ []) h all = texts_stay (meaning body).shorthands
+  layer_kept (kind.Class is_abstract) (super ∷ body ∷ types ∷ super_types ∷ implements ∷ []) h all = (λ present. refl, texts_stay (meaning body).shorthands)
   layer_kept (kind.ImportDecl type_only) (specifiers ∷ source ∷ attributes ∷ []) h all = texts_stay (meaning source).shorthands
   layer_kept (kind.ImportNamedSpecifier is_type_only) (local ∷ name ∷ []) h all = (texts_stay (meaning local).shorthands, texts_stay (meaning name).shorthands)
   layer_kept (kind.Function false false) (parameters ∷ body ∷ types ∷ return_type ∷ []) h all = still parameters body all.0

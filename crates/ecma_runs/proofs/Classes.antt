@@ -1,29 +1,31 @@
 -- Functions, classes and properties do alike where their parts do.
-use Rattle.std.proofs.Common.{◌≡◌, ℕ, ◌++◌, ◌||◌, sym, ap, ap₂, ◌∙◌, subst, subst₂, List, [], ◌∷◌, map, Option, Some, None, Bool, true, false, not, cond}
+use Rattle.std.proofs.Common.{◌≡◌, ℕ, ◌++◌, ◌||◌, sym, ap, ap₂, ◌∙◌, subst, subst₂, List, [], ◌∷◌, map, Option, Some, None, Bool, true, false, not, cond, codes, refl}
 use Rattle.ecma_kind.specs.declared.kind.Kind.{Kind}
 use Rattle.ecma_kind.specs.declared.kind.Kind.TheVariants as kind
 use Rattle.ecma_kind.specs.declared.operators.MethodKind.{MethodKind}
 use Rattle.ecma_kind.specs.declared.operators.MethodKind.TheVariants as method
 use Rattle.ecma_tree.specs.declared.node.Node.{Node}
-use Rattle.ecma_runs.specs.Values.{Value, Null, Own, Host, Error}
+use Rattle.ecma_runs.specs.declared.observation.Event.TheVariants as event
+use Rattle.ecma_runs.specs.Values.{Value, Undefined, Null, Truth, Number, Text, Own, Host, Error}
 use Rattle.ecma_runs.specs.Meaning.{inside}
 use Rattle.ecma_runs.specs.State.{Id, default_name, Entered, Binding, Sort, Plain, Method, Arrow, BaseClass, DerivedClass}
-use Rattle.ecma_runs.specs.Run.{◌>>=◌, give}
+use Rattle.ecma_runs.specs.Run.{Run, ◌>>=◌, give, when}
 use Rattle.ecma_runs.specs.Environment.{ids_of, resolved, empty, except, have_one_of}
 use Rattle.ecma_runs.specs.Objects.{Calling, Function, BoundFunction, define_data, with_getter, with_setter}
 use Rattle.ecma_runs.specs.Functions.{read, first_or_undefined, new_function, prototype_entries}
-use Rattle.ecma_runs.specs.Classes.{class_in, made_of, default_made_of, body_of, run_body, run_code, all_code, class_code, code_of, checked_target, checked_calling, parent_class, parent_prototype, heritage, field_activation, class_value, class_made_of, define_method, sets_prototype, literal_key, all_defined, defined_of, define_field, field_with, all_fields, fields_of, all_statics, statics_of}
+use Rattle.ecma_runs.specs.Members.{prototype_property}
+use Rattle.ecma_runs.specs.Classes.{class_in, made_of, default_made_of, body_of, run_body, run_code, all_code, class_code, code_of, checked_target, checked_calling, parent_class, parent_prototype, own_parents, parents_of, heritage, field_activation, class_value, class_made_of, define_method, sets_prototype, literal_key, all_defined, defined_of, define_field, field_with, all_fields, fields_of, all_statics, statics_of}
 use Rattle.ecma_runs.specs.Declarations.{all_shorthands, shorthands_of, locals_of, default_names_of}
 use Rattle.ecma_runs.proofs.Names.{changed_entered, changed_scope, changed_ids, changed_bindings, changed_bindings-append, except-changed}
 use Rattle.ecma_runs.specs.Sought.{meanings, all_sought, all_code_sought, sought_by_body, code_sought_of, sought_of, body_sought_of}
-use Rattle.ecma_runs.proofs.Names.{Unless, unless_map, unless_both, EachTold, each_unless, among_first}
-use Rattle.ecma_runs.proofs.Scopes.{ids_of-empties, Opens, opened, in_empty, body_stands, named_stand, not_caught, each_told, one, two, rest}
+use Rattle.ecma_runs.proofs.Names.{Unless, unless_is, unless_map, unless_both, EachTold, each_unless, among_first}
+use Rattle.ecma_runs.proofs.Scopes.{ids_of-empties, Opens, opened, nothing_opens, in_empty, body_stands, named_stand, not_caught, each_told, one, two, rest}
 use Rattle.ecma_runs.proofs.Alike.{Change, Standing, Alike, bind_by, bind_alike, give_alike, throw_alike, return_alike, outside_alike, when_alike}
-use Rattle.ecma_runs.proofs.Environments.{beside, Knows, enter_alike, set_all_alike, KeepTexts, resolved_alike}
-use Rattle.ecma_runs.proofs.Objects.{calling_at_alike, define_alike, define_data_alike, keep_field_keys_alike}
+use Rattle.ecma_runs.proofs.Environments.{beside, Knows, use_host_alike, enter_alike, set_all_alike, KeepTexts, resolved_alike}
+use Rattle.ecma_runs.proofs.Objects.{calling_at_alike, new_host_above_alike, define_alike, define_data_alike, keep_field_keys_alike}
 use Rattle.ecma_runs.proofs.Meanings.{at, World, first, second, inward, later, newest, within, Both, seekers, firsts, seconds, empties}
 use Rattle.ecma_runs.proofs.Members.{prototype_property_alike}
-use Rattle.ecma_runs.proofs.Functions.{read_alike, super_call_alike, new_prototype_alike, new_function_alike, MayKeep, make_function_alike}
+use Rattle.ecma_runs.proofs.Functions.{read_alike, super_call_alike, new_prototype_alike, new_function_alike, MayKeep, make_function_alike, make_generator_alike}
 use Rattle.ecma_runs.proofs.Premises.{renamed_kind, StillClash, KeptLayer, InBody, OpensLayer, Outlined, PlacedNode}
 use Rattle.ecma_runs.proofs.Lists.{all_stay, all_code_alike, all_defined_alike, all_fields_alike, all_statics_alike}
 use Rattle.ecma_runs.proofs.Expressions.{keeps_whole, value_alike}
@@ -46,6 +48,10 @@ module _ (c : Change) {a : List Entered} (w : World (at c a)) where
 
   pub made_alike : (n : Node) → c.fine n → (k : Kind) (ps : List (Both c)) → PlacedNode c n w.scope k (seekers c ps) → (sort : Sort) (home : Option ℕ) → Alike d (made_of n k (firsts c ps) sort home (first d w)) (made_of (c.node n) (renamed_kind c k) (seconds c ps) sort home (second d w))
   made_alike n fine (kind.Function false false) ps h sort home = make_function_alike d w n sort home fine (function_keeps n ps h)
+  made_alike n fine (kind.Function false true) ps h sort home =
+      make_function_alike d w n Method home fine (keeps_whole c w n (kind.Function false true) (seekers c ps) h.0.0 (unless_is c.names.plain (nothing_opens c.names _)) h.1)
+  made_alike n fine (kind.Function true is_async) ps h sort home =
+      make_generator_alike d w n home fine (keeps_whole c w n (kind.Function true is_async) (seekers c ps) h.0.0 (unless_is c.names.plain (nothing_opens c.names _)) h.1)
   made_alike n fine _ ps h sort home = outside_alike d
 
   without_default : (b : Bool) (ids sought : List Id) → Standing c w.scope ((cond b (default_name ∷ []) [] ++ ids) ++ sought) → Standing c w.scope (ids ++ sought)
@@ -134,9 +140,30 @@ module _ (c : Change) where
   parent_prototype_alike : (v : Value) → Alike c (parent_prototype v) (parent_prototype v)
   parent_prototype_alike (Own place) = give_alike c place
   parent_prototype_alike Null = outside_alike c
-  parent_prototype_alike (Host number) = outside_alike c
+  parent_prototype_alike (Host number) = new_host_above_alike c
   parent_prototype_alike (Error error_kind) = outside_alike c
   parent_prototype_alike _ = throw_alike c _
+
+  own_parents_alike : (v : Value) → Alike c (own_parents v) (own_parents v)
+  own_parents_alike v =
+      bind_alike c (parent_class_alike v) (λ parent. bind_alike c (prototype_property_alike c parent) (λ w. bind_alike c (parent_prototype_alike w) (λ prototype. give_alike c (Some parent, Some prototype))))
+
+  parents_of_alike : c.uses ≡ true → (v : Value) → Alike c (parents_of v) (parents_of v)
+  parents_of_alike u (Host number) =
+      bind_alike c (use_host_alike c u (event.HostGet number (codes "prototype"))) (λ w. bind_alike c (parent_prototype_alike w) (λ prototype.
+      bind_alike c (new_host_above_alike c) (λ parent. give_alike c (Some parent, Some prototype))))
+  parents_of_alike u Undefined = own_parents_alike Undefined
+  parents_of_alike u Null = own_parents_alike Null
+  parents_of_alike u (Truth truth) = own_parents_alike (Truth truth)
+  parents_of_alike u (Number number) = own_parents_alike (Number number)
+  parents_of_alike u (Text text) = own_parents_alike (Text text)
+  parents_of_alike u (Own place) = own_parents_alike (Own place)
+  parents_of_alike u (Error error_kind) = own_parents_alike (Error error_kind)
+
+  -- where the other branch is known not to be taken, nothing has to be shown of it
+  when_not_alike : {A : Type 0} (b : Bool) {m m' k k' : Run A} → Alike c m m' → (b ≡ false → Alike c k k') → Alike c (when b m k) (when b m' k')
+  when_not_alike true hm hk = hm
+  when_not_alike false hm hk = hk refl
 
   class_sort_alike : (w : World c) (n : Node) (b : Bool) (prototype : ℕ) (parent : Option ℕ) → c.fine n → MayKeep c w n
       → Alike c (new_function (prototype_entries false prototype) parent n (cond b BaseClass DerivedClass) (Some prototype) (first c w))
@@ -162,19 +189,19 @@ module _ (c : Change) where
   define_field_alike _ key v = outside_alike c
 
 module _ (c : Change) where
-  heritage_alike : {a : List Entered} (w : World (at c a)) (super : Both c) → Standing c w.scope super.0.seeks.sought → Alike (at c a) (heritage super.0.meaning (first (at c a) w)) (heritage super.1 (second (at c a) w))
-  heritage_alike {a} w super s =
-      rw (super.2.is_absent) (when_alike (at c a) super.0.meaning.is_absent (give_alike (at c a) (None, None))
-      (bind_alike (at c a) (super.2.value w s) (λ v. bind_alike (at c a) (parent_class_alike (at c a) v) (λ parent. bind_alike (at c a) (prototype_property_alike (at c a) parent) (λ z. bind_alike (at c a) (parent_prototype_alike (at c a) z) (λ prototype.
-      give_alike (at c a) (Some parent, Some prototype)))))))
+  heritage_alike : {a : List Entered} (w : World (at c a)) (super : Both c) → (super.0.meaning.is_absent ≡ false → c.uses ≡ true) → Standing c w.scope super.0.seeks.sought
+      → Alike (at c a) (heritage super.0.meaning (first (at c a) w)) (heritage super.1 (second (at c a) w))
+  heritage_alike {a} w super u s =
+      rw (super.2.is_absent) (when_not_alike (at c a) super.0.meaning.is_absent (give_alike (at c a) (None, None))
+      (λ present. bind_alike (at c a) (super.2.value w s) (λ v. parents_of_alike (at c a) (u present) v)))
 
   -- in the record of the inner name
-  class_in_alike : {a : List Entered} (w : World (at c a)) (n : Node) (super body : Both c) (ids : List Id) (scope : Entered) → c.fine n → KeepTexts c body.0.meaning.shorthands → (knows : Knows (at c a) scope) → EachTold c.names scope.ids ids
+  class_in_alike : {a : List Entered} (w : World (at c a)) (n : Node) (super body : Both c) (ids : List Id) (scope : Entered) → c.fine n → (super.0.meaning.is_absent ≡ false → c.uses ≡ true) → KeepTexts c body.0.meaning.shorthands → (knows : Knows (at c a) scope) → EachTold c.names scope.ids ids
       → Standing c (scope ∷ w.scope) super.0.seeks.sought → Standing c (scope ∷ w.scope) body.0.seeks.sought → MayKeep (at c a) (inward (at c a) w scope knows) n
       → Alike (at c a) (class_in n super.0.meaning body.0.meaning ids scope (first (at c a) w)) (class_in (c.node n) super.1 body.1 (changed_ids c.names ids) (changed_entered c.names scope) (second (at c a) w))
-  class_in_alike {a} w n super body ids scope fine texts knows told s z keeps =
+  class_in_alike {a} w n super body ids scope fine u texts knows told s z keeps =
       let v : World (at c a) = inward (at c a) w scope knows in
-      bind_alike (at c a) (heritage_alike v super s) (λ parents.
+      bind_alike (at c a) (heritage_alike v super u s) (λ parents.
       bind_alike (at c a) (new_prototype_alike (at c a) parents.1) (λ prototype.
       bind_alike (at c a) (class_function_alike (at c a) v n super.0.meaning.is_absent super.1.is_absent super.2.is_absent prototype parents.0 fine keeps) (λ class.
       bind_alike (at c a) (body.2.defined texts class prototype v z) (λ keys.
@@ -184,22 +211,22 @@ module _ (c : Change) where
       bind_alike (at c (e ∷ a)) (body.2.statics keys (Own class) (within (at c a) v e) (in_empty c.names e is z)) (λ _. give_alike (at c (e ∷ a)) (Own class)))))))))
 
   -- what is looked up in a class, in the record of its inner name
-  class_value_alike : {a : List Entered} (w : World (at c a)) (n : Node) (super body : Both c) (ids outer code : List Id) → c.fine n → KeepTexts c body.0.meaning.shorthands → Unless c.names.plain (Opens c.names ids outer (ids ++ (super.0.seeks.sought ++ (body.0.seeks.sought ++ code))))
+  class_value_alike : {a : List Entered} (w : World (at c a)) (n : Node) (super body : Both c) (ids outer code : List Id) → c.fine n → (super.0.meaning.is_absent ≡ false → c.uses ≡ true) → KeepTexts c body.0.meaning.shorthands → Unless c.names.plain (Opens c.names ids outer (ids ++ (super.0.seeks.sought ++ (body.0.seeks.sought ++ code))))
       → Standing c w.scope outer → ((e : Entered) → Standing c (e ∷ w.scope) (super.0.seeks.sought ++ (body.0.seeks.sought ++ code)) → MayKeep (at c (e ∷ a)) (within (at c a) w e) n)
       → Alike (at c a) (class_value n super.0.meaning body.0.meaning ids (first (at c a) w)) (class_value (c.node n) super.1 body.1 (changed_ids c.names ids) (second (at c a) w))
-  class_value_alike {a} w n super body ids outer code fine texts opens s keeps =
+  class_value_alike {a} w n super body ids outer code fine u texts opens s keeps =
       rw (empties c true ids)
       (enter_alike (at c a) (λ e. class_in (c.node n) super.1 body.1 (changed_ids c.names ids) e (second (at c a) w)) (map (empty true) ids) None (λ e is.
       let z : Standing c (e ∷ w.scope) (ids ++ (super.0.seeks.sought ++ (body.0.seeks.sought ++ code))) = opened c.names opens s e (is ∙ ids_of-empties true ids) in
       let r : Standing c (e ∷ w.scope) (super.0.seeks.sought ++ (body.0.seeks.sought ++ code)) = rest c.names (ids) _ z in
-      class_in_alike (later (at c a) w e) n super body ids e fine texts (newest (at c a) e) (each_told c.names e w.scope ids (one c.names (ids) _ z)) (one c.names _ _ r) (two c.names _ _ _ r) (keeps e r)))
+      class_in_alike (later (at c a) w e) n super body ids e fine u texts (newest (at c a) e) (each_told c.names e w.scope ids (one c.names (ids) _ z)) (one c.names _ _ r) (two c.names _ _ _ r) (keeps e r)))
 
 module _ (c : Change) {a : List Entered} (w : World (at c a)) where
   pub class_made_alike : (n : Node) → c.fine n → (k : Kind) (ps : List (Both c)) → KeptLayer c k (firsts c ps) → Unless c.names.plain (OpensLayer c k (seekers c ps)) → Unless c.names.plain (Outlined c n k (seekers c ps)) → (ids outer : List Id)
       → Unless c.names.plain (Opens c.names ids outer (ids ++ sought_of k (seekers c ps))) → Standing c w.scope outer
       → Alike (at c a) (class_made_of n k (firsts c ps) ids (first (at c a) w)) (class_made_of (c.node n) (renamed_kind c k) (seconds c ps) (changed_ids c.names ids) (second (at c a) w))
   class_made_alike n fine (kind.Class is_abstract) (super ∷ body ∷ types ∷ super_types ∷ implements ∷ []) kept o l ids outer opens s =
-      class_value_alike c w n super body ids outer _ fine kept opens s (λ e r.
+      class_value_alike c w n super body ids outer _ fine kept.0 kept.1 opens s (λ e r.
       unless_both c.names.plain (λ p q. subst₂ (λ m u. Standing c (e ∷ w.scope) u.sought × Opens c.names m.parameter_names u.sought u.code_sought) (sym q.0) (sym q.1) (r, p)) o l)
   class_made_alike n fine _ ps kept o l ids outer opens s = outside_alike (at c a)
 

@@ -16,15 +16,6 @@ use Rattle.ecma_runs.proofs.Scripts.{Does, nulls}
 use Rattle.std.specs.Fmt.{digits}
 use Rattle.ecma_number.specs.Arithmetic.{quotient_of}
 
--- f(1); /a/;
-regular_expressions :
-    Does 9 nulls []
-    (statement (call (ident (codes "f")) (whole 1 ▸ End))
-    ▸ statement (tree (kind.Regex (codes "a") (codes "")) End)
-    ▸ End)
-    (HostCall 7 shown.Undefined (shown.Num (js_number.Whole (pos 1)) ∷ []) ∷ []) (ending.Outside)
-regular_expressions = simp meaning_node refl
-
 -- f(1); 1n;
 big_integers :
     Does 9 nulls []
@@ -328,15 +319,6 @@ heritage_null :
     ▸ End)
     (HostCall 7 shown.Undefined (shown.Num (js_number.Whole (pos 1)) ∷ []) ∷ []) (ending.Outside)
 heritage_null = simp meaning_node refl
-
--- f(1); class A extends f {}
-heritage_of_the_host :
-    Does 9 nulls []
-    (statement (call (ident (codes "f")) (whole 1 ▸ End))
-    ▸ declare_class (codes "A") (ident (codes "f")) End
-    ▸ End)
-    (HostCall 7 shown.Undefined (shown.Num (js_number.Whole (pos 1)) ∷ []) ∷ []) (ending.Outside)
-heritage_of_the_host = simp meaning_node refl
 
 -- class A {} class B extends A { constructor() { f(1); super.x; } } new B();
 super_members_before_super :

@@ -157,7 +157,7 @@ module _ (fine : Node → Type 0) (f : Node → Node) (known : Known) (t : Telli
   kept_layer kind.KeyValuePatProp ms = refl
   kept_layer kind.AssignPatProp (name ∷ default ∷ []) = (refl, texts_stay name.shorthands)
   kept_layer kind.ObjectLit (properties ∷ []) = texts_stay properties.shorthands
-  kept_layer (kind.Class is_abstract) (super ∷ body ∷ types ∷ super_types ∷ implements ∷ []) = texts_stay body.shorthands
+  kept_layer (kind.Class is_abstract) (super ∷ body ∷ types ∷ super_types ∷ implements ∷ []) = (λ present. refl, texts_stay body.shorthands)
   kept_layer (kind.ImportDecl type_only) (specifiers ∷ source ∷ attributes ∷ []) = texts_stay source.shorthands
   kept_layer (kind.ImportNamedSpecifier is_type_only) (local ∷ name ∷ []) = (texts_stay local.shorthands, texts_stay name.shorthands)
   kept_layer (kind.Function false false) (parameters ∷ body ∷ types ∷ return_type ∷ []) = still parameters body

@@ -39,6 +39,8 @@ mod FactsObjects
 mod FactsProto
 mod FactsFunctions
 mod FactsClasses
+mod FactsHostHeritage
+mod FactsOpenHeritage
 mod FactsStatements
 mod FactsCatch
 mod FactsTypes
@@ -46,7 +48,9 @@ mod FactsOpen
 mod FactsOpenKinds
 mod FactsCompound
 mod FactsFlow
+mod FactsRegularExpressions
 mod FactsScopes
+mod FactsMade
 mod FactsMembers
 mod FactsMethods
 mod FactsErased

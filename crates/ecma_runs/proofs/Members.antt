@@ -10,7 +10,7 @@ use Rattle.ecma_runs.specs.Members.{got, text_member, member, written, put_over,
 use Rattle.ecma_runs.proofs.Names.{length-map}
 use Rattle.ecma_runs.proofs.Alike.{Change, changed_object, Alike, bind_alike, give_alike, throw_alike, outside_alike, when_alike, given_alike}
 use Rattle.ecma_runs.proofs.Environments.{show_alike, use_host_alike}
-use Rattle.ecma_runs.proofs.Objects.{object_at-changed, calling_at_alike, extent_at_alike, own_property_at_alike, found_from_alike, found_from_base_alike, change_entries_alike, changed_element_alike}
+use Rattle.ecma_runs.proofs.Objects.{object_at-changed, calling_at_alike, extent_at_alike, own_property_at_alike, found_from_alike, below_no_host_alike, found_from_base_alike, change_entries_alike, changed_element_alike}
 use Rattle.ecma_runs.proofs.Meanings.{World, first, second}
 
 module _ (c : Change) where
@@ -124,7 +124,7 @@ module _ (c : Change) where
   prototype_property_alike place = bind_alike c (found_from_alike c place (codes "prototype")) (λ p. prototype_value_alike p)
 
   instance_by_alike : (place : ℕ) (v : Value) → Alike c (instance_by place v) (instance_by place v)
-  instance_by_alike place (Own prototype) = bind_alike c (inherits_alike place prototype) (λ b. give_alike c (Truth b))
+  instance_by_alike place (Own prototype) = bind_alike c (inherits_alike place prototype) (λ b. when_alike c b (give_alike c (Truth true)) (below_no_host_alike c place (give_alike c (Truth false))))
   instance_by_alike place (Host number) = outside_alike c
   instance_by_alike place (Error error_kind) = outside_alike c
   instance_by_alike place _ = throw_alike c _
@@ -141,7 +141,7 @@ module _ (c : Change) where
   instance_of_calling_alike v place (Some (BoundFunction target this given)) = instance_of_function_alike v target
 
   pub instance_of_alike : (v w : Value) → Alike c (instance_of v w) (instance_of v w)
-  instance_of_alike v (Own place) = bind_alike c (calling_at_alike c place) (λ o. instance_of_calling_alike v place o)
+  instance_of_alike v (Own place) = below_no_host_alike c place (bind_alike c (calling_at_alike c place) (λ o. instance_of_calling_alike v place o))
   instance_of_alike v (Host number) = outside_alike c
   instance_of_alike v (Error error_kind) = outside_alike c
   instance_of_alike v _ = throw_alike c _

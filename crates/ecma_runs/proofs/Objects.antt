@@ -6,7 +6,7 @@ use Rattle.ecma_runs.specs.Values.{Value, Error}
 use Rattle.ecma_runs.specs.State.{Environment, Closure, Callable, Code, Bound, Passed, Property, Data, Entry, Extent, Ordinary, Array, ArgumentList, Object, State}
 use Rattle.ecma_tree.specs.declared.node.Node.{Node}
 use Rattle.ecma_runs.specs.Run.{Run, outside, changed_at}
-use Rattle.ecma_runs.specs.Objects.{new_object, object_at, callable_in, code_in, closure_at, calling_of, calling_at, prototype_in, prototype_at, extent_in, extent_at, Ancestry, with_object, is_index_below, or_else, own_property, own_in, own_property_at, property_above, no_ancestry, found_from, Base, ObjectBase, BuiltInBase, base_from, base_of, super_base, found_from_base, with_entries, change_entries, put_entry, is_fixed, if_element, define, define_data, elements_by, elements_at, new_array, new_arguments}
+use Rattle.ecma_runs.specs.Objects.{new_object, host_above, new_host_above, object_at, callable_in, code_in, closure_at, calling_of, calling_at, prototype_in, prototype_at, extent_in, extent_at, Ancestry, with_object, is_index_below, or_else, own_property, own_in, own_property_at, property_above, no_ancestry, found_from, ends_above, has_end, below_no_host, Base, ObjectBase, BuiltInBase, base_from, base_of, super_base, found_from_base, with_entries, change_entries, put_entry, is_fixed, if_element, define, define_data, elements_by, elements_at, new_array, new_arguments}
 use Rattle.ecma_runs.specs.Classes.{with_field_keys, keeping_keys, keep_field_keys}
 use Rattle.ecma_runs.proofs.Names.{Unless, kept_by, map-changed_at, map-push, length-map}
 use Rattle.ecma_runs.proofs.Alike.{Change, passed_to, changed, changed_callable, changed_object, Around, Keeps, FineCallable, AllFine, Good, Follows, Alike, bind_alike, give_alike, throw_alike, outside_alike, passed_alike, when_alike}
@@ -29,6 +29,15 @@ module _ (c : Change) where
   pub new_object_alike : (o : Object) → ((es : List Environment) → Around c es → FineCallable c es o.callable) → Alike c (new_object o) (new_object (changed_object c o))
   new_object_alike o fine = record {
     at = λ s g. (rw (length-map (changed_object c) s.objects, map-push (changed_object c) s.objects o) refl, ((all_fine-push s.environments s.objects o g.0.0 (fine s.environments g.0.1), g.0.1), g.1, g.2), tt);
+  }
+
+  pub new_host_above_alike : Alike c new_host_above new_host_above
+  new_host_above_alike = record {
+    at = λ s g. (
+      rw (length-map (changed_object c) s.objects, map-push (changed_object c) s.objects (host_above (length s.objects))) refl,
+      ((all_fine-push s.environments s.objects (host_above (length s.objects)) g.0.0 tt, g.0.1), g.1, g.2),
+      tt,
+    );
   }
 
   -- what can be called
@@ -107,6 +116,19 @@ module _ (c : Change) where
   property_above-changed objects key ancestry (suc n) None = refl
   property_above-changed objects key ancestry (suc n) (Some object) =
       ap (or_else (own_property key object)) (rw (with_object-changed object ancestry, object_at-changed objects object.prototype) (property_above-changed objects key (with_object object ancestry) n (object_at objects object.prototype)))
+
+  ends_above-changed : (objects : List Object) (n : ℕ) (o : Option Object) → ends_above (map (changed_object c) objects) n (option_map (changed_object c) o) ≡ ends_above objects n o
+  ends_above-changed objects zero o = refl
+  ends_above-changed objects (suc n) None = refl
+  ends_above-changed objects (suc n) (Some object) = rw (object_at-changed objects object.prototype) (ends_above-changed objects n (object_at objects object.prototype))
+
+  has_end_alike : (place : ℕ) → Alike c (has_end place) (has_end place)
+  has_end_alike place = record {
+    at = λ s g. (rw (length-map (changed_object c) s.objects, slice_get-map (changed_object c) s.objects place, ends_above-changed s.objects (suc (length s.objects)) (slice_get s.objects place)) refl, g, tt);
+  }
+
+  pub below_no_host_alike : {A : Type 0} (place : ℕ) {m m' : Run A} → Alike c m m' → Alike c (below_no_host place m) (below_no_host place m')
+  below_no_host_alike place h = bind_alike c (has_end_alike place) (λ e. when_alike c e h (outside_alike c))
 
   pub found_from_alike : (place : ℕ) (key : List ℕ) → Alike c (found_from place key) (found_from place key)
   found_from_alike place key = record {

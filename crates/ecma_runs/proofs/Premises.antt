@@ -48,7 +48,7 @@ module _ (c : Change) where
   KeptLayer kind.KeyValuePatProp ms = c.uses ≡ true
   KeptLayer kind.AssignPatProp (name ∷ default ∷ []) = (c.uses ≡ true) × KeepTexts c name.shorthands
   KeptLayer kind.ObjectLit (properties ∷ []) = KeepTexts c properties.shorthands
-  KeptLayer (kind.Class is_abstract) (super ∷ body ∷ types ∷ super_types ∷ implements ∷ []) = KeepTexts c body.shorthands
+  KeptLayer (kind.Class is_abstract) (super ∷ body ∷ types ∷ super_types ∷ implements ∷ []) = (super.is_absent ≡ false → c.uses ≡ true) × KeepTexts c body.shorthands
   KeptLayer (kind.ImportDecl type_only) (specifiers ∷ source ∷ attributes ∷ []) = KeepTexts c source.shorthands
   KeptLayer (kind.ImportNamedSpecifier is_type_only) (local ∷ name ∷ []) = KeepTexts c local.shorthands × KeepTexts c name.shorthands
   KeptLayer (kind.Function false false) (parameters ∷ body ∷ types ∷ return_type ∷ []) = StillClash parameters body

@@ -124,7 +124,7 @@ module _ (to : Id → Id) (m : Node) (renaming : IsRenaming to m) where
   layer_kept kind.KeyValuePatProp cs h p t = refl
   layer_kept kind.AssignPatProp (name ∷ default ∷ []) h p t = (refl, listed name t)
   layer_kept kind.ObjectLit (properties ∷ []) h p t = listed properties t
-  layer_kept (kind.Class is_abstract) (super ∷ body ∷ types ∷ super_types ∷ implements ∷ []) h p t = listed body t
+  layer_kept (kind.Class is_abstract) (super ∷ body ∷ types ∷ super_types ∷ implements ∷ []) h p t = (λ present. refl, listed body t)
   layer_kept (kind.ImportDecl type_only) (specifiers ∷ source ∷ attributes ∷ []) h p t = listed source t
   layer_kept (kind.ImportNamedSpecifier is_type_only) (local ∷ name ∷ []) h p t = (listed local (stay_first to (keys local).here (keys name).here t), listed name (stay_rest to (keys local).here (keys name).here t))
   layer_kept (kind.Function false false) (parameters ∷ body ∷ types ∷ return_type ∷ []) h p t = still parameters body p.1.0

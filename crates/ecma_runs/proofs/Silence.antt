@@ -3,17 +3,18 @@ use Rattle.std.proofs.Common.{◌≡◌, ◌&&◌, inl, inr, refl, sym, ap, ◌�
 use Rattle.std.specs.List.{list_all}
 use Rattle.ecma_kind.specs.declared.kind.Kind.{Kind}
 use Rattle.ecma_kind.specs.declared.kind.Kind.TheVariants as kind
-use Rattle.ecma_tree.specs.declared.node.Node.{Node, fold-roll-Node, ind-Node, roll-Node}
+use Rattle.ecma_tree.specs.declared.node.Node.{Node, Node-F, fold-roll-Node, ind-Node, roll-Node, out-Node}
+use Rattle.ecma_tree.specs.declared.node.Node.TheViews.{roll-out-Node}
 use Rattle.ecma_runs.specs.declared.script.Script.{Script}
 use Rattle.ecma_runs.specs.Run.{Outcome, Done, Thrown, Returned, Broken, Continued, Ended}
 use Rattle.ecma_runs.specs.Meaning.{Known, Meaning}
-use Rattle.ecma_runs.specs.Declarations.{is_required_of, has_no_effect}
+use Rattle.ecma_runs.specs.Declarations.{is_required_of, is_absent_of, has_no_effect}
 use Rattle.ecma_runs.specs.Evaluation.{role_by, no_effect, meaning_by, meaning}
 use Rattle.ecma_runs.specs.Environment.{ids_of}
 use Rattle.ecma_runs.specs.Observation.{known_of, exports_in, run_module, start}
-use Rattle.ecma_runs.specs.Uses.{uses_nothing_by, uses_nothing_step, uses_nothing}
+use Rattle.ecma_runs.specs.Uses.{uses_nothing_by, Used, extends_nothing, used_step, used, uses_nothing}
 use Rattle.ecma_runs.specs.Laws.{state_behind, DeclarationsAloneHaveNoEvents}
-use Rattle.ecma_runs.proofs.Layer.{meaning-roll}
+use Rattle.ecma_runs.proofs.Layer.{meaning-roll, meaning_out}
 use Rattle.ecma_runs.proofs.Alike.{Change, Follows}
 use Rattle.ecma_runs.proofs.Premises.{renamed_kind, KeptLayer}
 use Rattle.ecma_runs.proofs.Kept.{AllNodes, StepsAlike, layer_same, run_module_alike}
@@ -49,9 +50,16 @@ both_true : (a b : Bool) → a && b ≡ true → (a ≡ true) × (b ≡ true)
 both_true true b h = (refl, h)
 both_true false b h = absurd (cc)
 
-all_quiet : (ns : List Node) → list_all (λ b. b) (map uses_nothing ns) ≡ true → AllNodes (λ n. uses_nothing n ≡ true) ns
+all_quiet : (ns : List Node) → list_all (λ u. u.uses_nothing) (map used ns) ≡ true → AllNodes (λ n. uses_nothing n ≡ true) ns
 all_quiet [] h = tt
-all_quiet (n ∷ ns) h = let t = both_true (uses_nothing n) (list_all (λ b. b) (map uses_nothing ns)) h in (t.0, all_quiet ns t.1)
+all_quiet (n ∷ ns) h = let t = both_true (uses_nothing n) (list_all (λ u. u.uses_nothing) (map used ns)) h in (t.0, all_quiet ns t.1)
+
+-- of a layer in which nothing is used
+quiet_parts : (x : Node-F Node) → uses_nothing (roll-Node x) ≡ true → (uses_nothing_by x.kind ≡ true) × (extends_nothing x.kind (map used x.children) ≡ true) × AllNodes (λ n. uses_nothing n ≡ true) x.children
+quiet_parts x h =
+    let t = both_true (uses_nothing_by x.kind && extends_nothing x.kind (map used x.children)) (list_all (λ u. u.uses_nothing) (map used x.children)) (sym (ap (λ u. u.uses_nothing) (fold-roll-Node Used used_step x)) ∙ h) in
+    let s = both_true (uses_nothing_by x.kind) (extends_nothing x.kind (map used x.children)) t.0 in
+    (s.0, s.1, all_quiet x.children t.1)
 
 true-false : {b : Bool} → b ≡ true → b ≡ false → ⊥
 true-false p q = cc
@@ -95,8 +103,8 @@ each_unrequired (n ∷ ns) h = (n.1 h.0, each_unrequired ns h.1)
 
 not_required : (n : Node) → NotRequired n
 not_required = ind-Node NotRequired (λ x y is h.
-    let t = both_true (uses_nothing_by x.kind) (list_all (λ b. b) (map uses_nothing x.children)) (sym (fold-roll-Node Bool uses_nothing_step x) ∙ h) in
-    let all : AllNodes (λ n. uses_nothing n ≡ true) (map (λ e. e.0) y.children) = subst (AllNodes (λ n. uses_nothing n ≡ true)) (sym (ap (λ z. z.children) is)) (all_quiet x.children t.1) in
+    let t = quiet_parts x h in
+    let all : AllNodes (λ n. uses_nothing n ≡ true) (map (λ e. e.0) y.children) = subst (AllNodes (λ n. uses_nothing n ≡ true)) (sym (ap (λ z. z.children) is)) t.2 in
     ap (λ m. m.is_required) (meaning-roll x)
     ∙ layer_unrequired (roll-Node x) x.kind (map meaning x.children) (subst (λ l. NoneRequired (map meaning l)) (ap (λ z. z.children) is) (each_unrequired y.children all)) t.0)
 
@@ -104,28 +112,49 @@ none_required : (ns : List Node) → AllNodes (λ n. uses_nothing n ≡ true) ns
 none_required [] h = tt
 none_required (n ∷ ns) h = (not_required n h.0, none_required ns h.1)
 
+-- no class has a heritage
+
+absent_kind : (n : Node) (k : Kind) (ms : List Meaning) → is_absent_of k ≡ true → (meaning_by n k ms).is_absent ≡ true
+absent_kind n kind.Absent ms h = refl
+absent_kind n _ ms h = absurd (cc)
+
+absent_meaning : (n : Node) → (used n).is_absent ≡ true → (meaning n).is_absent ≡ true
+absent_meaning n h =
+    ap (λ m. m.is_absent) (meaning_out n)
+    ∙ absent_kind n (out-Node n).kind (map meaning (out-Node n).children) (sym (ap (λ u. u.is_absent) (fold-roll-Node Used used_step (out-Node n))) ∙ (ap (λ z. (used z).is_absent) (roll-out-Node n) ∙ h))
+
+abbrev Unextended : Kind → List Meaning → Type 0
+Unextended (kind.Class is_abstract) (super ∷ others) = super.is_absent ≡ true
+Unextended k ms = Unit {0}
+
+unextended : (k : Kind) (ns : List Node) → extends_nothing k (map used ns) ≡ true → Unextended k (map meaning ns)
+unextended (kind.Class is_abstract) (super ∷ others) h = absent_meaning super h
+unextended (kind.Class is_abstract) [] h = tt
+unextended _ ns h = tt
+
 module _ (known : Known) where
-  quiet_layer : (k : Kind) (ms : List Meaning) → NoneRequired ms → uses_nothing_by k ≡ true → KeptLayer (quiet known) k ms
-  quiet_layer kind.MemberExpr ms none h = absurd (cc)
-  quiet_layer kind.SuperPropExpr ms none h = absurd (cc)
-  quiet_layer kind.TsQualifiedName ms none h = absurd (cc)
-  quiet_layer kind.KeyValuePatProp ms none h = absurd (cc)
-  quiet_layer kind.AssignPatProp ms none h = absurd (cc)
-  quiet_layer kind.CallExpr ms none h = absurd (cc)
-  quiet_layer kind.OptCall ms none h = absurd (cc)
-  quiet_layer kind.NewExpr ms none h = absurd (cc)
-  quiet_layer kind.TsExternalModuleRef ms none h = absurd (cc)
-  quiet_layer kind.TsExportAssignment ms none h = absurd (cc)
-  quiet_layer (kind.TsImportEqualsDecl true false) (name ∷ source ∷ []) none h = (λ required. absurd (true-false required none.1.0), texts_stay name.shorthands)
-  quiet_layer k ms none h = kept_layer (λ n. Unit {0}) (λ n. n) known the_same k ms
+  quiet_layer : (k : Kind) (ms : List Meaning) → NoneRequired ms → Unextended k ms → uses_nothing_by k ≡ true → KeptLayer (quiet known) k ms
+  quiet_layer kind.MemberExpr ms none alone h = absurd (cc)
+  quiet_layer kind.SuperPropExpr ms none alone h = absurd (cc)
+  quiet_layer kind.TsQualifiedName ms none alone h = absurd (cc)
+  quiet_layer kind.KeyValuePatProp ms none alone h = absurd (cc)
+  quiet_layer kind.AssignPatProp ms none alone h = absurd (cc)
+  quiet_layer kind.CallExpr ms none alone h = absurd (cc)
+  quiet_layer kind.OptCall ms none alone h = absurd (cc)
+  quiet_layer kind.NewExpr ms none alone h = absurd (cc)
+  quiet_layer kind.TsExternalModuleRef ms none alone h = absurd (cc)
+  quiet_layer kind.TsExportAssignment ms none alone h = absurd (cc)
+  quiet_layer (kind.TsImportEqualsDecl true false) (name ∷ source ∷ []) none alone h = (λ required. absurd (true-false required none.1.0), texts_stay name.shorthands)
+  quiet_layer (kind.Class is_abstract) (super ∷ body ∷ types ∷ super_types ∷ implements ∷ []) none alone h = (λ present. absurd (true-false alone present), texts_stay body.shorthands)
+  quiet_layer k ms none alone h = kept_layer (λ n. Unit {0}) (λ n. n) known the_same k ms
 
   quiet_kind : (k : Kind) → renamed_kind (quiet known) k ≡ k
   quiet_kind k = same_kind (λ n. Unit {0}) (λ n. n) known the_same k
 
   quiet_steps : StepsAlike (quiet known)
   quiet_steps x ns is fine fine' =
-      let t = both_true (uses_nothing_by x.kind) (list_all (λ b. b) (map uses_nothing x.children)) (sym (fold-roll-Node Bool uses_nothing_step x) ∙ fine) in
-      layer_same (quiet known) x ns is fine (all_quiet x.children t.1) (quiet_layer x.kind (map meaning x.children) (none_required x.children (all_quiet x.children t.1)) t.0) tt
+      let t = quiet_parts x fine in
+      layer_same (quiet known) x ns is fine t.2 (quiet_layer x.kind (map meaning x.children) (none_required x.children t.2) (unextended x.kind x.children t.1) t.0) tt
       (itself_layers x ∙ ap (λ k. meaning_by (roll-Node x) k (map meaning (map (λ n. n) x.children))) (sym (quiet_kind x.kind)))
 
 no_events : {A : Type 0} (known : Known) (r r' : Outcome A) → Follows (quiet known) (λ a. a) (λ a. Unit {0}) r r' → (state_behind r).events ≡ []

@@ -5,21 +5,25 @@ use Rattle.ecma_kind.specs.declared.kind.Kind.TheVariants as kind
 use Rattle.ecma_kind.specs.declared.operators.MethodKind.{MethodKind}
 use Rattle.ecma_kind.specs.declared.operators.MethodKind.TheVariants as method
 use Rattle.ecma_tree.specs.declared.node.Node.{Node}
+use Rattle.ecma_runs.specs.declared.observation.Event.TheVariants as event
 use Rattle.ecma_runs.specs.Values.{Value, Undefined, Null, Own, Host, Error}
 use Rattle.ecma_runs.specs.State.{Entered, Id, Forbidden, Activation, Callable, Code, Passed, Object, Sort, Plain, Method, BaseClass, DerivedClass}
 use Rattle.ecma_runs.specs.Run.{Done, Run, ◌>>=◌, give, return, outside, type_error, when, changed_at}
+use Rattle.ecma_runs.specs.Host.{use_host}
 use Rattle.ecma_runs.specs.Environment.{new_environment, set_all, empty, except, have_one_of}
 use Rattle.ecma_runs.specs.Meaning.{inside, Evaluation, Meaning}
-use Rattle.ecma_runs.specs.Objects.{Calling, Function, BoundFunction, calling_at, define, define_data, with_getter, with_setter}
+use Rattle.ecma_runs.specs.Objects.{Calling, Function, BoundFunction, calling_at, new_host_above, define, define_data, with_getter, with_setter}
 use Rattle.ecma_runs.specs.Members.{prototype_property}
-use Rattle.ecma_runs.specs.Functions.{read, super_call, first_or_undefined, new_prototype, new_function, prototype_entries, make_function}
+use Rattle.ecma_runs.specs.Functions.{read, super_call, first_or_undefined, new_prototype, new_function, prototype_entries, make_function, make_generator}
 use Rattle.ecma_runs.specs.Expressions.{identifier, value_of}
 
 -- functions
 
--- a function whose object is made; async functions and generators are open
+-- a function whose object is made. Async functions can not be constructed, nor generators; a call of either is open, since it has no code here (15.8.2, 15.8.4, 15.5.3)
 abbrev pub made_of : Node → Kind → List Meaning → Sort → Option ℕ → Evaluation ℕ
 made_of node (kind.Function false false) children sort home x = make_function node sort home x
+made_of node (kind.Function false true) children sort home x = make_function node Method home x
+made_of node (kind.Function true is_async) children sort home x = make_generator node home x
 made_of node _ children sort home x = outside
 
 -- a function that is exported as the default: its name is one of the module, so that no record is made for it (16.2.3.7 Exports: Evaluation)
@@ -63,7 +67,7 @@ code_of _ children arguments x = outside
 
 -- classes
 
--- the parent of a class: a constructor, or a function that is bound to one; null, a host value or an error is open
+-- the parent of a class: a constructor, or a function that is bound to one; null or an error is open
 abbrev pub checked_target : ℕ → Option Calling → Run ℕ
 checked_target place (Some (Function Plain)) = give place
 checked_target place (Some (Function BaseClass)) = give place
@@ -84,18 +88,25 @@ parent_class (Host number) = outside
 parent_class (Error error_kind) = outside
 parent_class v = type_error
 
--- the parent of its prototype
+-- the parent of its prototype; null or an error is open
 abbrev pub parent_prototype : Value → Run ℕ
 parent_prototype (Own place) = give place
 parent_prototype Null = outside
-parent_prototype (Host number) = outside
+parent_prototype (Host number) = new_host_above
 parent_prototype (Error error_kind) = outside
 parent_prototype v = type_error
 
+abbrev pub own_parents : Value → Run (Option ℕ × Option ℕ)
+own_parents v = parent_class v >>= λ parent. prototype_property parent >>= λ w. parent_prototype w >>= λ prototype. give (Some parent, Some prototype)
+
+-- the parents of a class and of its prototype, by the heritage: its `prototype` is asked for (15.7.14, steps 8.f to 8.h), and a host value is a constructor, as it is wherever it is constructed
+abbrev pub parents_of : Value → Run (Option ℕ × Option ℕ)
+parents_of (Host number) =
+    use_host (event.HostGet number (codes "prototype")) >>= λ w. parent_prototype w >>= λ prototype. new_host_above >>= λ parent. give (Some parent, Some prototype)
+parents_of v = own_parents v
+
 abbrev pub heritage : Meaning → Evaluation (Option ℕ × Option ℕ)
-heritage super x =
-    when super.is_absent (give (None, None))
-    (super.value x >>= λ v. parent_class v >>= λ parent. prototype_property parent >>= λ w. parent_prototype w >>= λ prototype. give (Some parent, Some prototype))
+heritage super x = when super.is_absent (give (None, None)) (super.value x >>= λ v. parents_of v)
 
 -- `this` and home where fields of an object are defined
 abbrev pub field_activation : Value → Option ℕ → Activation

@@ -80,7 +80,7 @@ pub record EventsOnlyGrow : Type 0 where
   pub actions : (turns : ℕ) (options : Config) (m : Node) (script : Script) (more : List Action) →
       Extends (observe turns options m script).events (observe turns options m (record script { actions = script.actions ++ more })).events
 
--- a module without members and calls has no events, as long as the host does nothing with it
+-- a module without members, calls and classes with a heritage has no events, as long as the host does nothing with it
 abbrev pub DeclarationsAloneHaveNoEvents : Type 0
 DeclarationsAloneHaveNoEvents =
     (turns : ℕ) (options : Config) (m : Node) (script : Script) → IsTrue (uses_nothing m) → (observe turns options m (record script { actions = [] })).events ≡ []

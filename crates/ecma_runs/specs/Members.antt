@@ -6,7 +6,7 @@ use Rattle.ecma_runs.specs.State.{Property, Data, Fixed, Accessor, Open, Extent,
 use Rattle.ecma_runs.specs.Run.{Done, Run, ◌>>=◌, give, outside, type_error, when, given}
 use Rattle.ecma_runs.specs.Host.{show, use_host}
 use Rattle.ecma_runs.specs.Meaning.{AsCall, ExecutionContext}
-use Rattle.ecma_runs.specs.Objects.{Calling, Function, BoundFunction, calling_at, object_at, has_elements, is_open_element, found_from, Base, found_from_base, own_property_at, extent_at, if_element, change_entries, put_entry, without_entry}
+use Rattle.ecma_runs.specs.Objects.{Calling, Function, BoundFunction, calling_at, object_at, has_elements, is_open_element, found_from, below_no_host, Base, found_from_base, own_property_at, extent_at, if_element, change_entries, put_entry, without_entry}
 
 -- reading
 
@@ -125,7 +125,7 @@ abbrev pub prototype_property : ℕ → Run Value
 prototype_property place = found_from place (codes "prototype") >>= λ p. prototype_value p
 
 abbrev pub instance_by : ℕ → Value → Run Value
-instance_by place (Own prototype) = inherits place prototype >>= λ b. give (Truth b)
+instance_by place (Own prototype) = inherits place prototype >>= λ b. when b (give (Truth true)) (below_no_host place (give (Truth false)))
 instance_by place (Host number) = outside
 instance_by place (Error error_kind) = outside
 instance_by place v = type_error
@@ -142,9 +142,9 @@ instance_of_calling v place None = type_error
 instance_of_calling v place (Some (Function sort)) = instance_of_function v place
 instance_of_calling v place (Some (BoundFunction target this given)) = instance_of_function v target
 
--- 13.10.2 InstanceofOperator; a host value or an error on the right is open
+-- 13.10.2 InstanceofOperator; a host value or an error on the right is open, and what is below a host value, which may say what its instances are
 abbrev pub instance_of : Value → Value → Run Value
-instance_of v (Own place) = calling_at place >>= λ o. instance_of_calling v place o
+instance_of v (Own place) = below_no_host place (calling_at place >>= λ o. instance_of_calling v place o)
 instance_of v (Host number) = outside
 instance_of v (Error error_kind) = outside
 instance_of v w = type_error

@@ -57,6 +57,14 @@ extent_in (Some object) = object.extent
 abbrev pub extent_at : ℕ → Run Extent
 extent_at place s = Done (extent_in (slice_get s.objects place)) s
 
+-- what stands for a host value above an object of the program: nobody holds it. It is its own prototype and bound to itself, so that a look-up that comes to it does not end, and what it
+-- would do where it is called or constructed is not known: all of that is open.
+abbrev pub host_above : ℕ → Object
+host_above place = record { entries = []; prototype = Some place; callable = Some (Bound place Undefined []); extent = Ordinary }
+
+abbrev pub new_host_above : Run ℕ
+new_host_above s = Done (length s.objects) (record s { objects = s.objects ++ host_above (length s.objects) ∷ [] })
+
 -- keys
 
 -- whether the key is that of an element before this one
@@ -140,7 +148,7 @@ own_property_at place key s = Done (own_in key (slice_get s.objects place)) s
 abbrev pub missing : Ancestry → List ℕ → Option Property
 missing ancestry key = (if is_open_key ancestry key then Some Open else None)
 
--- the first property of a key from an object up its prototypes, of which there are no more than objects
+-- the first property of a key from an object up its prototypes, of which there are no more than objects; where they do not end, a host value is among them, and it is open
 abbrev pub property_above : List Object → List ℕ → Ancestry → ℕ → Option Object → Option Property
 property_above objects key ancestry zero object = Some Open
 property_above objects key ancestry (suc n) None = missing ancestry key
@@ -153,6 +161,19 @@ no_ancestry = record { has_function = false; has_elements = false }
 -- what a look-up finds that begins at an object (10.1.8 [[Get]])
 abbrev pub found_from : ℕ → List ℕ → Run (Option Property)
 found_from place key s = Done (property_above s.objects key no_ancestry (suc (length s.objects)) (slice_get s.objects place)) s
+
+-- whether the prototypes of an object come to an end, in no more steps than there are objects: where they do not, a host value is among them
+abbrev pub ends_above : List Object → ℕ → Option Object → Bool
+ends_above objects zero object = false
+ends_above objects (suc n) None = true
+ends_above objects (suc n) (Some object) = ends_above objects n (object_at objects object.prototype)
+
+abbrev pub has_end : ℕ → Run Bool
+has_end place s = Done (ends_above s.objects (suc (length s.objects)) (slice_get s.objects place)) s
+
+-- what is done with an object below no host value; below one it is open
+abbrev pub below_no_host : {A : Type 0} → ℕ → Run A → Run A
+below_no_host place run = has_end place >>= λ e. when e run outside
 
 -- where the look-up of a `super` member begins: at an object, or, above an object that has no prototype of the program's, at what all such objects have
 pub data Base : Type 0 where
