@@ -4,3 +4,9 @@ pub mod Children
 pub mod Underway
 pub mod Bounded
 pub mod Setting
+pub mod Under
+pub mod Hoisted
+pub mod Naming
+pub mod Ranks
+pub mod Declared
+pub mod Counted

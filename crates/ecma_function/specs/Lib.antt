@@ -5,3 +5,10 @@ pub mod Injecting
 pub mod Constructors
 pub mod This
 pub mod Laws
+pub mod Needs
+pub mod Seats
+pub mod Members
+pub mod Hoisting
+pub mod Hoisters
+pub mod Declaring
+pub mod Wrapping
