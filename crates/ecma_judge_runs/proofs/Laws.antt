@@ -21,7 +21,7 @@ use Rattle.ecma_judge_runs.specs.Still.{Still}
 use Rattle.ecma_judge_runs.specs.Called.{is_function_expression, declares_no_loose, called, Assumed, MayBeCalled}
 use Rattle.ecma_judge_runs.specs.Taken.{Taken, is_taken_by, taken}
 use Rattle.ecma_judge_runs.specs.Known.{IsAsJudged}
-use Rattle.ecma_judge_runs.specs.Laws.{WhatHasNoEffectsIsStill, ClassesWithoutEffectsAreStill, CallsOfPureCalleesAreStill, WhatIsKnownIsSo, WhatIsPureIsStill, WhatIsAPureNumberIsStill, WhatHasAKnownTextIsStill, PureCallsAreStill, PureCalleesAreStill, ContextsApplyFunctions}
+use Rattle.ecma_judge_runs.specs.Laws.{WhatHasNoEffectsIsStill, ClassesWithoutEffectsAreStill, CallsOfPureCalleesAreStill, WhatIsKnownIsSo, WhatIsPureIsStill, WhatIsAPureNumberIsStill, WhatHasAKnownTextIsStill, PureCallsAreStill, PureCalleesAreStill, ContextsApplyFunctions, SortedExpressionsAreTaken}
 use Rattle.ecma_judge_runs.proofs.Fronts.{still_itself}
 use Rattle.ecma_judge_runs.proofs.Leaving.{Leaves, behind}
 use Rattle.ecma_judge_runs.proofs.Giving.{gave_done}
@@ -31,6 +31,9 @@ use Rattle.ecma_judge_runs.proofs.IdleCalls.{function_called_on, call_function_l
 use Rattle.ecma_judge_runs.proofs.Nodes.{claim}
 use Rattle.ecma_judge_runs.proofs.ValuedNodes.{valued}
 use Rattle.ecma_judge_runs.proofs.Steady.{steady}
+use Rattle.ecma_judge_runs.proofs.Sorted.{sortable}
+use Rattle.ecma_kind.specs.declared.shapes.Sort.TheVariants as sort
+use Rattle.ecma_tree.specs.Sorted.{one}
 
 -- what leaves all as it was from a state leaves that state as it was
 still_behind : {A : Type 0} (m : Run A) (s : State) → Leaves s m → Still s (state_behind (m s))
@@ -130,3 +133,8 @@ calls_applied x (suc depth) function how arguments s = inr (calls x.provided x.k
 pub contexts_apply_functions : ContextsApplyFunctions
 contexts_apply_functions x depth (inl is) = subst (Applied x) (sym is) (λ function how arguments s. calls_applied x s.turns function how arguments s)
 contexts_apply_functions x depth (inr is) = subst (Applied x) (sym is) (calls_applied x depth)
+
+-- ---- trees with sorts
+
+pub sorted_expressions_are_taken : SortedExpressionsAreTaken
+sorted_expressions_are_taken ctx e x sorted none told = (sortable ctx x e).whole (one sort.Expr) sorted none told

@@ -30,4 +30,5 @@ pub mod ValuedNodes
 pub mod Idle
 pub mod Purities
 pub mod Steady
+pub mod Sorted
 pub mod Laws

@@ -3,6 +3,8 @@ use Rattle.std.specs.Prelude.{◌≡◌, ◌⊎◌, ℕ, Bool, List, [], ◌∷�
 use Rattle.ecma_number.specs.declared.types.Purity.TheVariants.{Pure}
 use Rattle.ecma_number.specs.declared.value.Value.TheVariants.{Known}
 use Rattle.ecma_kind.specs.declared.kind.Kind.TheVariants as kind
+use Rattle.ecma_kind.specs.declared.shapes.Sort.TheVariants as sort
+use Rattle.ecma_tree.specs.Sorted.{HasSort}
 use Rattle.ecma_tree.specs.declared.node.Node.{Node, out-Node}
 use Rattle.ecma_judge.specs.declared.ctx.ExprCtx.{ExprCtx}
 use Rattle.ecma_judge.specs.Judged.{judged}
@@ -15,6 +17,7 @@ use Rattle.ecma_runs.specs.Laws.{state_behind}
 use Rattle.ecma_judge_runs.specs.Still.{Still}
 use Rattle.ecma_judge_runs.specs.Taken.{is_taken}
 use Rattle.ecma_judge_runs.specs.Called.{are_apart, declares_no_loose, called, AppliesFunctions, Assumed, IsSo, MayBeCalled}
+use Rattle.ecma_judge_runs.specs.Told.{are_told}
 use Rattle.ecma_judge_runs.specs.Known.{IsAsJudged, ConstructsObjects, is_valued, declares_no_global}
 
 -- where a name that no scope declares may not be read wherever it stands, an expression that is said to have no effects leaves all as it was, however it comes out: with a value, with what is thrown, or with what is open.
@@ -77,3 +80,9 @@ WhatHasAKnownTextIsStill =
 abbrev pub ContextsApplyFunctions : Type 0
 ContextsApplyFunctions =
     (x : ExecutionContext) (depth : ℕ) → (x.functions.invoke ≡ invoke x.provided x.known) ⊎ (x.functions.invoke ≡ calls x.provided x.known depth) → AppliesFunctions x
+
+-- where all that may be known is known, nothing is asked of a tree with the sort of an expression that is said to have no effects, but that its names are told
+abbrev pub SortedExpressionsAreTaken : Type 0
+SortedExpressionsAreTaken =
+    (ctx : ExprCtx) (e : Node) (x : ExecutionContext) → HasSort sort.Expr e → (judged ctx e).effects ≡ false → IsTrue (are_told ctx x.known.declared e) →
+    IsTrue (is_taken ctx x.known.declared (record { globals = true; calls = true }) e)

@@ -3,7 +3,7 @@
 //! Each function carries one law, and does nothing. The laws are stated in `specs/Laws.antt`.
 #![tactic(auto)]
 
-ghost use Rattle.ecma_judge_runs.specs.Laws.{CallsOfPureCalleesAreStill, ClassesWithoutEffectsAreStill, ContextsApplyFunctions, PureCalleesAreStill, PureCallsAreStill, WhatHasAKnownTextIsStill, WhatHasNoEffectsIsStill, WhatIsAPureNumberIsStill, WhatIsKnownIsSo, WhatIsPureIsStill};
+ghost use Rattle.ecma_judge_runs.specs.Laws.{CallsOfPureCalleesAreStill, ClassesWithoutEffectsAreStill, ContextsApplyFunctions, PureCalleesAreStill, PureCallsAreStill, SortedExpressionsAreTaken, WhatHasAKnownTextIsStill, WhatHasNoEffectsIsStill, WhatIsAPureNumberIsStill, WhatIsKnownIsSo, WhatIsPureIsStill};
 
 /// An expression that is said to have no effects changes nothing when it is evaluated: no variable, no object, and nothing that the host sees; however it comes
 /// out. It may make objects and environment records. Asked is that its names are told. Of a member of `Math` and a call of `Date` it is so where these names are
@@ -61,4 +61,10 @@ pub fn pure_calls_are_still()
 /// Calls are those of the program in the contexts in which the code of a module runs, and that of the functions that it calls.
 pub fn contexts_apply_functions()
     ensures { ContextsApplyFunctions }
+{}
+
+/// The laws speak of each tree with the sort of an expression that is said to have no effects, where `Math` and `Date` are global, calls those of the program, and
+/// the names in it told.
+pub fn sorted_expressions_are_taken()
+    ensures { SortedExpressionsAreTaken }
 {}
