@@ -4,8 +4,6 @@
 #[cfg(test)]
 mod builders;
 #[cfg(test)]
-mod functions;
-#[cfg(test)]
 mod judging;
 #[cfg(test)]
 mod utilities;
