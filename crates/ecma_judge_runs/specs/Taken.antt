@@ -42,7 +42,8 @@ in_place true t = t.in_class
 in_place false t = t.in_object
 
 -- what a node defines on the object, or on the class, is no accessor: a member of a class that is not static is defined on the prototype. Of a list, and of what wraps a node, it is what stands there;
--- and a class that has no heritage has no accessor itself if its members define none on it. In trees with the sort of an expression this says no more than that the table tells of no accessor.
+-- and a class that has no heritage has no accessor itself if its members define none on it. It is asked beside the table since the table looks for accessors only where trees with the sort of an
+-- expression have them.
 abbrev pub in_place_by : Bool → Kind → List Taken → Bool
 in_place_by is_class kind.List children = list_all (λ (t : Taken). in_place is_class t) children
 in_place_by is_class kind.GetterProp children = is_class

@@ -1,6 +1,7 @@
 //! The passes that write enums and reads of their members.
-ghost use Rattle.std.specs.Prelude.{◌≡◌, [], IfOk, OnOk};
+ghost use Rattle.std.specs.Prelude.{◌≡◌, ◌⊎◌, [], IfErr, IfOk, OnOk};
 ghost use Rattle.ecma_enums.specs.Folded.{Answers};
+ghost use Rattle.ecma_enums.specs.declared.error.EnumError.TheVariants as enum_error;
 ghost use Rattle.ecma_lower_enums.specs.Lowered as table;
 ghost use Rattle.ecma_lower_enums.specs.Lowered.{enums_lowered, inlining, left, with_members_read};
 ghost use Rattle.ecma_lower_enums.specs.Writing.{with_enums_written};
@@ -56,8 +57,10 @@ pub fn lower_enums(
     verbatim_module_syntax: bool,
     tree: &mut Module,
 ) -> Result<(), EnumError>
-    ensures { Answers (left result tree.new)
+    ensures answer { Answers (left result tree.new)
         (enums_lowered ts_enum_is_mutable verbatim_module_syntax unresolved tree.old) }
+    // Where a number is beyond, the tree is as it was.
+    ensures kept { IfErr result (λ refusal. (refusal ≡ enum_error.NoMemory) ⊎ (tree.new ≡ tree.old)) }
 {
     let members = record_enums(alloc, unresolved, tree)?;
     write_with(
