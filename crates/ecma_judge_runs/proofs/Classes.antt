@@ -1,5 +1,5 @@
 -- Classes, properties and members without effects leave all as it was.
-use Rattle.std.proofs.Common.{◌≡◌, refl, ◌∙◌, ℕ, ◌++◌, List, [], ◌∷◌, map, Some, None, Bool, true, false, cond}
+use Rattle.std.proofs.Common.{◌≡◌, refl, ◌∙◌, inl, ℕ, ◌++◌, List, [], ◌∷◌, map, Some, None, Bool, true, false, cond}
 use Rattle.ecma_kind.specs.declared.kind.Kind.{Kind}
 use Rattle.ecma_kind.specs.declared.kind.Kind.TheVariants as kind
 use Rattle.ecma_kind.specs.declared.operators.MethodKind.TheVariants as method
@@ -19,11 +19,11 @@ use Rattle.ecma_runs.proofs.Scopes.{ids_of-empties}
 use Rattle.ecma_judge_runs.specs.Called.{Assumed}
 use Rattle.ecma_judge_runs.specs.Taken.{is_taken}
 use Rattle.ecma_judge_runs.proofs.Leaving.{Leaves, bind_by, bind_leaves, give_leaves, outside_leaves, when_leaves}
-use Rattle.ecma_judge_runs.proofs.Keeping.{leaves_of, outside_from}
+use Rattle.ecma_judge_runs.proofs.Keeping.{leaves_of, weaker_from, outside_from}
 use Rattle.ecma_judge_runs.proofs.Records.{NewRecord, new_environment_as, set_all_leaves}
 use Rattle.ecma_judge_runs.proofs.Objects.{NewObject, new_prototype_by, new_function_by, make_function_leaves, define_data_leaves, define_method_leaves, keep_field_keys_leaves, prototype_property_leaves, parent_class_leaves, parent_prototype_leaves}
 use Rattle.ecma_judge_runs.proofs.Reading.{read_leaves}
-use Rattle.ecma_judge_runs.proofs.Data.{make_function_from}
+use Rattle.ecma_judge_runs.proofs.Data.{make_function_from, make_generator_from}
 use Rattle.ecma_judge_runs.proofs.Both.{both_true, neither_true}
 use Rattle.ecma_judge_runs.proofs.Meanings.{NamesApart, Apart, apart_inside, within, Makes, Quiet, Claimed, meanings, HasNone, IsTaken, AllQuiet, all_quiet, first_quiet, second_whole}
 use Rattle.ecma_judge_runs.proofs.Expressions.{identifier_by}
@@ -31,7 +31,9 @@ use Rattle.ecma_judge_runs.proofs.Expressions.{identifier_by}
 module _ (ctx : ExprCtx) (sure : Assumed) (off : ctx.is_unresolved_ref_safe ≡ false) (x : ExecutionContext) where
   -- a function's object is made, whatever the function is
   pub made_leaves : (n : Node) (k : Kind) (ms : List Meaning) → Makes ctx sure x (role_by n k ms)
-  made_leaves n (kind.Function false false) ms sort home old scope = make_function_from old (within ctx sure x scope) n sort home
+  made_leaves n (kind.Function false false) ms sort home old scope = weaker_from old (λ f s d. inl d) (make_function_from old (within ctx sure x scope) n sort home)
+  made_leaves n (kind.Function false true) ms sort home old scope = weaker_from old (λ f s d. inl d) (make_function_from old (within ctx sure x scope) n Method home)
+  made_leaves n (kind.Function true is_async) ms sort home old scope = make_generator_from old (within ctx sure x scope) n home
   made_leaves n _ ms sort home old scope = outside_from old
 
   module _ (old : State) (scope : List Entered) (apart : Apart ctx sure scope) where

@@ -1,4 +1,4 @@
--- Objects without accessors: to read a member of one calls nothing, and what defines data on it, or something on another, keeps it so.
+-- Objects without accessors, and none above them: to read a member of one calls nothing, and what defines data on it, or something on another, keeps it so.
 use Rattle.std.proofs.Common.{◌≡◌, refl, sym, subst, ◌⊎◌, inl, inr, ℕ, zero, suc, ◌+◌, ◌<◌, ◌≤◌, arith, length, length-append, List, [], ◌∷◌, ◌++◌, Option, Some, None, Bool, true, false, bytes_eq, codes, slice_get, if◌then◌else◌}
 use Rattle.std.specs.List.{list_all}
 use Rattle.ecma_kind.specs.declared.operators.MethodKind.{MethodKind}
@@ -9,13 +9,13 @@ use Rattle.ecma_number.specs.declared.js_number.JsNumber.TheVariants.{Whole}
 use Rattle.ecma_runs.specs.declared.shown.ErrorKind.TheVariants as error
 use Rattle.ecma_runs.specs.Values.{Value, Undefined, Number, Text, Own, Error}
 use Rattle.ecma_tree.specs.declared.node.Node.{Node}
-use Rattle.ecma_runs.specs.State.{Id, Sort, Plain, Method, Arrow, BaseClass, DerivedClass, Property, Data, Fixed, Accessor, Open, Entry, Extent, Ordinary, Array, ArgumentList, Object, State}
+use Rattle.ecma_runs.specs.State.{Id, Sort, Plain, Method, Arrow, BaseClass, DerivedClass, Code, Property, Data, Fixed, Accessor, Open, Entry, Extent, Ordinary, Array, ArgumentList, Object, State}
 use Rattle.ecma_runs.specs.Run.{Run, give, changed_at}
 use Rattle.ecma_runs.specs.Environment.{set_variable, set_all, Reference, ToFree, ToMember}
 use Rattle.ecma_runs.specs.Meaning.{ExecutionContext}
 use Rattle.ecma_runs.specs.Objects.{new_object, Ancestry, with_object, no_ancestry, is_open_key, property_of, or_else, length_property, extent_property, own_property, property_above, object_at, is_index_below, with_entries, change_entries, put_entry, is_fixed, if_element, define, define_data, with_getter, with_setter}
 use Rattle.ecma_runs.specs.Members.{got}
-use Rattle.ecma_runs.specs.Functions.{new_prototype, prototype_entries, function_entries, new_function, make_function, read, read_typed}
+use Rattle.ecma_runs.specs.Functions.{new_prototype, prototype_entries, function_entries, function_object, closure_of, new_function, make_function, open_entries, plain_object, make_generator, read, read_typed}
 use Rattle.ecma_runs.specs.Classes.{keeping_keys, keep_field_keys, define_method}
 use Rattle.ecma_judge_runs.specs.Still.{Still}
 use Rattle.ecma_judge_runs.proofs.Both.{both_true, two_true}
@@ -40,11 +40,45 @@ abbrev pub HasData : Object → Type 0
 HasData o = (all_data o.entries ≡ true) × (o.prototype ≡ None)
 
 -- such an object stands there
+abbrev pub IsDataIn : ℕ → List Object → Type 0
+IsDataIn place objects = (o : Object) × (slice_get objects place ≡ Some o) × HasData o
+
 abbrev pub IsDataAt : ℕ → State → Type 0
-IsDataAt place s = (o : Object) × (slice_get s.objects place ≡ Some o) × HasData o
+IsDataAt place s = IsDataIn place s.objects
 
 pub still_data : (place : ℕ) (s t : State) → Still s t → IsDataAt place s → IsDataAt place t
 still_data place s t h d = (d.0, front_at s.objects t.objects place d.0 h.objects d.1, d.2)
+
+-- it has no accessor, and stands below such an object
+pub record IsBelowData (place : ℕ) (objects : List Object) : Type 0 where
+  pub object : Object
+  pub at : slice_get objects place ≡ Some object
+  pub plain : all_data object.entries ≡ true
+  pub parent : ℕ
+  pub below : object.prototype ≡ Some parent
+  pub above : Object
+  pub at_above : slice_get objects parent ≡ Some above
+  pub data_above : HasData above
+
+-- no accessor is found from there
+abbrev pub IsReadIn : ℕ → List Object → Type 0
+IsReadIn place objects = IsDataIn place objects ⊎ IsBelowData place objects
+
+abbrev pub IsReadAt : ℕ → State → Type 0
+IsReadAt place s = IsReadIn place s.objects
+
+pub still_read : (place : ℕ) (s t : State) → Still s t → IsReadAt place s → IsReadAt place t
+still_read place s t h (inl d) = inl (still_data place s t h d)
+still_read place s t h (inr b) = inr (record {
+  object = b.object;
+  at = front_at s.objects t.objects place b.object h.objects b.at;
+  plain = b.plain;
+  parent = b.parent;
+  below = b.below;
+  above = b.above;
+  at_above = front_at s.objects t.objects b.parent b.above h.objects b.at_above;
+  data_above = b.data_above;
+})
 
 -- ---- look-ups
 
@@ -79,11 +113,28 @@ above_data : (objects : List Object) (key : List ℕ) (ancestry : Ancestry) (n :
 above_data objects key ancestry zero = refl
 above_data objects key ancestry (suc n) = if_data (is_open_key ancestry key) (Some Open) None refl refl
 
-found_data : (objects : List Object) (key : List ℕ) (n : ℕ) (o : Object) → HasData o → is_data_if (property_above objects key no_ancestry (suc n) (Some o)) ≡ true
-found_data objects key n o h =
-    or_data (own_property key o) (property_above objects key (with_object o no_ancestry) n (object_at objects o.prototype))
-    (or_data (extent_property o.extent key) (property_of key o.entries) (extent_data o.extent key) (property_data key o.entries h.0))
-    (subst (λ p. is_data_if (property_above objects key (with_object o no_ancestry) n (object_at objects p)) ≡ true) (sym h.1) (above_data objects key (with_object o no_ancestry) n))
+own_data : (key : List ℕ) (o : Object) → all_data o.entries ≡ true → is_data_if (own_property key o) ≡ true
+own_data key o all = or_data (extent_property o.extent key) (property_of key o.entries) (extent_data o.extent key) (property_data key o.entries all)
+
+found_data : (objects : List Object) (key : List ℕ) (ancestry : Ancestry) (n : ℕ) (o : Object) → HasData o → is_data_if (property_above objects key ancestry n (Some o)) ≡ true
+found_data objects key ancestry zero o h = refl
+found_data objects key ancestry (suc n) o h =
+    or_data (own_property key o) (property_above objects key (with_object o ancestry) n (object_at objects o.prototype)) (own_data key o h.0)
+    (subst (λ p. is_data_if (property_above objects key (with_object o ancestry) n (object_at objects p)) ≡ true) (sym h.1) (above_data objects key (with_object o ancestry) n))
+
+found_below : (objects : List Object) (key : List ℕ) (n : ℕ) (place : ℕ) (b : IsBelowData place objects) → is_data_if (property_above objects key no_ancestry (suc n) (Some b.object)) ≡ true
+found_below objects key n place b =
+    or_data (own_property key b.object) (property_above objects key (with_object b.object no_ancestry) n (object_at objects b.object.prototype)) (own_data key b.object b.plain)
+    (subst (λ p. is_data_if (property_above objects key (with_object b.object no_ancestry) n (object_at objects p)) ≡ true) (sym b.below)
+    (subst (λ o. is_data_if (property_above objects key (with_object b.object no_ancestry) n o) ≡ true) (sym b.at_above) (found_data objects key (with_object b.object no_ancestry) n b.above b.data_above)))
+
+-- what is found from there is no accessor
+abbrev FindsData : List ℕ → List Object → Option Object → Type 0
+FindsData key objects o = is_data_if (property_above objects key no_ancestry (suc (length objects)) o) ≡ true
+
+read_finds : (place : ℕ) (key : List ℕ) (objects : List Object) → IsReadIn place objects → FindsData key objects (slice_get objects place)
+read_finds place key objects (inl d) = subst (λ o. FindsData key objects o) (sym d.1) (found_data objects key no_ancestry (suc (length objects)) d.0 d.2)
+read_finds place key objects (inr b) = subst (λ o. FindsData key objects o) (sym b.at) (found_below objects key (length objects) place b)
 
 -- ---- changes
 
@@ -129,7 +180,7 @@ last_below xs o = let e : length (xs ++ o ∷ []) ≡ length xs + length (o ∷ 
 
 -- what may be read, by the state: a member of an object without accessors, or of a text
 abbrev pub ReadableIn : Reference → State → Type 0
-ReadableIn (ToMember (Own place) key) s = IsDataAt place s
+ReadableIn (ToMember (Own place) key) s = IsReadAt place s
 ReadableIn (ToMember (Text text) key) s = Unit {0}
 ReadableIn (ToMember o key) s = ⊥
 ReadableIn r s = Readable r
@@ -207,12 +258,11 @@ module _ (old : State) where
   got_leaves x receiver (Some Open) h = outside_leaves old
 
   -- a member of such an object
-  read_data : (x : ExecutionContext) (place : ℕ) (key : List ℕ) → LeavesFrom old (IsDataAt place) (λ v s. Unit {0}) (read x (ToMember (Own place) key))
+  read_data : (x : ExecutionContext) (place : ℕ) (key : List ℕ) → LeavesFrom old (IsReadAt place) (λ v s. Unit {0}) (read x (ToMember (Own place) key))
   read_data x place key = record {
     at = λ s g d.
         (of_leaves old {R = Any}
-        (got_leaves x (Own place) (property_above s.objects key no_ancestry (suc (length s.objects)) (slice_get s.objects place))
-        (subst (λ z. is_data_if (property_above s.objects key no_ancestry (suc (length s.objects)) z) ≡ true) (sym d.1) (found_data s.objects key (length s.objects) d.0 d.2)))).at s g tt;
+        (got_leaves x (Own place) (property_above s.objects key no_ancestry (suc (length s.objects)) (slice_get s.objects place)) (read_finds place key s.objects d))).at s g tt;
   }
 
   -- what is left as it was, where that may be read
@@ -234,8 +284,11 @@ module _ (old : State) where
 
   -- ---- functions
 
+  data_from : (o : Object) → HasData o → LeavesFrom old Any (λ p s. IsDataAt p s) (new_object o)
+  data_from o h = weaker_from old (λ p s d. d.2) (new_data_from (λ p. Unit {0}) o h)
+
   function_from : (x : ExecutionContext) (entries : List Entry) (n : Node) (sort : Sort) (home : Option ℕ) → all_data entries ≡ true → LeavesFrom old Any (λ f s. IsDataAt f s) (new_function entries None n sort home x)
-  function_from x entries n sort home all = weaker_from old (λ f s h. h.2) (new_data_from (λ p. Unit {0}) _ (all, refl))
+  function_from x entries n sort home all = data_from _ (all, refl)
 
   pub make_function_from : (x : ExecutionContext) (n : Node) (sort : Sort) (home : Option ℕ) → LeavesFrom old Any (λ f s. IsDataAt f s) (make_function n sort home x)
   make_function_from x n Plain home = bind_from old (of_leaves old {R = Any} (new_object_leaves old _)) (λ place. function_from x (prototype_entries true place) n Plain home refl)
@@ -243,6 +296,30 @@ module _ (old : State) where
   make_function_from x n Arrow home = function_from x function_entries n Arrow home refl
   make_function_from x n BaseClass home = function_from x function_entries n BaseClass home refl
   make_function_from x n DerivedClass home = function_from x function_entries n DerivedClass home refl
+
+  below_from : (o : Object) (parent : ℕ) → all_data o.entries ≡ true → o.prototype ≡ Some parent → LeavesFrom old (IsDataAt parent) (λ p s. IsReadAt p s) (new_object o)
+  below_from o parent all below = record {
+    at = λ s g d. (
+      ((new_object_leaves old o).at s g).0,
+      inr (record {
+        object = o;
+        at = last_at s.objects o;
+        plain = all;
+        parent = parent;
+        below = below;
+        above = d.0;
+        at_above = front_at s.objects (s.objects ++ o ∷ []) parent d.0 (o ∷ [], refl) d.1;
+        data_above = d.2;
+      }),
+    );
+  }
+
+  -- a generator stands below an object of its own
+  pub make_generator_from : (x : ExecutionContext) (n : Node) (home : Option ℕ) → LeavesFrom old Any (λ f s. IsReadAt f s) (make_generator n home x)
+  make_generator_from x n home =
+      bind_from old (of_leaves old {R = Any} (new_object_leaves old _)) (λ above. bind_from old (of_leaves old {R = Any} (new_object_leaves old (plain_object [] (Some above)))) (λ place.
+      bind_from old (data_from (plain_object (open_entries (codes "prototype" ∷ [])) None) (refl, refl)) (λ functions.
+      below_from (function_object (prototype_entries true place) (Some functions) (Code (closure_of n Method home x))) functions refl refl)))
 
   -- of a class, which stands behind its prototype
   pub new_prototype_from : (parent : Option ℕ) → LeavesFrom old Any (λ p t. NewObject old p × (p < length t.objects)) (new_prototype parent)
@@ -254,9 +331,10 @@ module _ (old : State) where
 
   -- variables of new records are no objects
 
-  set_variable_keeps : (kept : ℕ) (id : Id) (place : ℕ) (v : Value) → length old.environments ≤ place → Keeps kept (set_variable place id v)
-  set_variable_keeps kept id place v new = record { at = λ s g d. (((set_variable_leaves old place id v new).at s g).0, d) }
+  module _ (R : List Object → Type 0) where
+    set_variable_from : (id : Id) (place : ℕ) (v : Value) → length old.environments ≤ place → LeavesFrom old (λ s. R s.objects) (λ a s. R s.objects) (set_variable place id v)
+    set_variable_from id place v new = record { at = λ s g r. (((set_variable_leaves old place id v new).at s g).0, r) }
 
-  pub set_all_keeps : (kept : ℕ) (ids : List Id) (place : ℕ) (v : Value) → length old.environments ≤ place → Keeps kept (set_all ids place v)
-  set_all_keeps kept [] place v new = give_keeps kept tt
-  set_all_keeps kept (id ∷ ids) place v new = bind_from old (set_variable_keeps kept id place v new) (λ _. set_all_keeps kept ids place v new)
+    pub set_all_from : (ids : List Id) (place : ℕ) (v : Value) → length old.environments ≤ place → LeavesFrom old (λ s. R s.objects) (λ a s. R s.objects) (set_all ids place v)
+    set_all_from [] place v new = give_from old tt (λ s r. r)
+    set_all_from (id ∷ ids) place v new = bind_from old (set_variable_from id place v new) (λ _. set_all_from ids place v new)

@@ -26,14 +26,14 @@ use Rattle.ecma_runs.specs.Operators.{key_from, short_circuit, unary_value}
 use Rattle.ecma_runs.specs.Expressions.{identifier, member_of, member_reference, chained, call_by, binary_rest, unary, sequence, function_value, value_of, reference_of, initial_of, all_arguments, arguments_of, all_elements, elements_of, key_of}
 use Rattle.ecma_judge_runs.proofs.Leaving.{LeavesBy, Leaves, bind_by, bind_leaves, give_leaves, outside_leaves, when_leaves, given_leaves}
 use Rattle.ecma_judge_runs.proofs.Records.{Readable, new_environment_by, set_all_leaves, activation_leaves, this_leaves, resolved_by}
-use Rattle.ecma_judge_runs.proofs.Objects.{new_object_by, new_array_leaves, make_function_leaves, type_of_leaves}
+use Rattle.ecma_judge_runs.proofs.Objects.{new_object_by, new_array_leaves, make_function_leaves, new_regular_expression_leaves, type_of_leaves}
 use Rattle.ecma_judge_runs.proofs.Reading.{read_leaves, applied_leaves}
 use Rattle.ecma_judge_runs.specs.Called.{is_function_expression, Assumed, AppliesFunctions}
 use Rattle.ecma_judge_runs.specs.Taken.{taken, is_taken}
 use Rattle.ecma_judge_runs.proofs.Both.{both_true, neither_true, certain, pure_or_plain}
 use Rattle.ecma_judge_runs.proofs.Passing.{passes_first}
-use Rattle.ecma_judge_runs.proofs.Keeping.{Any, FollowsIn, LeavesFrom, bind_from, of_leaves, leaves_of, weaker_from, give_from}
-use Rattle.ecma_judge_runs.proofs.Data.{IsDataAt, keeps_data, ReadableIn, readable_in, read_from, read_typed_from}
+use Rattle.ecma_judge_runs.proofs.Keeping.{Any, FollowsIn, LeavesFrom, bind_from, of_leaves, leaves_of, weaker_from, kept_from, give_from}
+use Rattle.ecma_judge_runs.proofs.Data.{IsReadAt, still_read, ReadableIn, readable_in, read_from, read_typed_from}
 use Rattle.ecma_judge_runs.proofs.Callees.{IsTextMember, pure_member, call_leaves}
 use Rattle.ecma_judge_runs.proofs.IdleCalls.{call_function_leaves}
 use Rattle.ecma_judge_runs.proofs.Meanings.{read_name, called_idle, called_name, Apart, within, Makes, Quiet, RefersToNew, Claimed, meanings, HasNone, IsTaken, Has, AllQuiet, all_quiet, first_whole, first_quiet}
@@ -108,8 +108,8 @@ module _ (ctx : ExprCtx) (sure : Assumed) (off : ctx.is_unresolved_ref_safe ≡ 
     -- members
 
     -- of a new object
-    member_of_new : (key : Run (List ℕ)) → ((s : State) → Leaves s key) → (o : ℕ) → LeavesFrom old (IsDataAt o) ReadableIn (member_of (within ctx sure x scope) (ToValue (Own o)) key)
-    member_of_new key h o = bind_from old (keeps_data old o h) (λ k. give_from old (ToMember (Own o) k) (λ s d. d))
+    member_of_new : (key : Run (List ℕ)) → ((s : State) → Leaves s key) → (o : ℕ) → LeavesFrom old (IsReadAt o) ReadableIn (member_of (within ctx sure x scope) (ToValue (Own o)) key)
+    member_of_new key h o = bind_from old (kept_from old (IsReadAt o) (still_read o) h) (λ k. give_from old (ToMember (Own o) k) (λ s d. d))
 
     member_of_read : (key : Run (List ℕ)) → ((s : State) → Leaves s key) → (r : Reference) → LeavesFrom old (RefersToNew r) ReadableIn (member_of (within ctx sure x scope) r key)
     member_of_read key h r = record {
@@ -197,6 +197,7 @@ module _ (ctx : ExprCtx) (sure : Assumed) (off : ctx.is_unresolved_ref_safe ≡ 
     value_leaves n (kind.Bool truth) [] has none whole = give_leaves old (Truth truth)
     value_leaves n kind.Null [] has none whole = give_leaves old Null
     value_leaves n kind.ThisExpr [] has none whole = this_leaves old scope
+    value_leaves n (kind.Regex exp flags) [] has none whole = bind_leaves old (new_regular_expression_leaves old) (λ o. give_leaves old (Own o))
     value_leaves n kind.Tpl (expressions ∷ parts ∷ []) has none whole = absurd (cc)
     value_leaves n kind.ArrayLit (elements ∷ []) has none whole =
         bind_leaves old ((first_quiet ctx sure x elements [] none whole).elements old scope apart) (λ es. bind_leaves old (new_array_leaves old es) (λ o. give_leaves old (Own o)))
@@ -208,7 +209,7 @@ module _ (ctx : ExprCtx) (sure : Assumed) (off : ctx.is_unresolved_ref_safe ≡ 
         let t = both_true (is_taken ctx x.known.declared sure name.0) (is_taken ctx x.known.declared sure class.0 && (not sure.globals || (taken ctx x.known.declared sure name.0).named)) whole in
         let u = both_true (is_taken ctx x.known.declared sure class.0) (not sure.globals || (taken ctx x.known.declared sure name.0).named) t.1 in
         (class.1.quiet none u.0).class_made (meaning name.0).names (λ g. name.1.named (asked sure.globals (taken ctx x.known.declared sure name.0).named u.1 g)) old scope apart
-    value_leaves n (kind.ArrowExpr false false) ns has none whole = bind_leaves old (make_function_leaves old (within ctx sure x scope) n Arrow None) (λ f. give_leaves old (Own f))
+    value_leaves n (kind.ArrowExpr is_async false) ns has none whole = bind_leaves old (make_function_leaves old (within ctx sure x scope) n Arrow None) (λ f. give_leaves old (Own f))
     value_leaves n (kind.UnaryExpr op) (operand ∷ []) has none whole =
         let e = neither_true (is_delete op) (judged ctx operand.0).effects none in unary_leaves op (meaning operand.0) e.0 (first_quiet ctx sure x operand [] e.1 whole)
     value_leaves n (kind.UpdateExpr op prefix) (operand ∷ []) has none whole = absurd (cc)

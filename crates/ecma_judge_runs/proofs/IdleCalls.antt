@@ -1,36 +1,37 @@
 -- A function expression that does nothing leaves all as it was when it is called where it stands.
-use Rattle.std.proofs.Common.{◌≡◌, refl, sym, ap, ◌∙◌, subst, ◌⊎◌, inl, inr, ℕ, ◌++◌, List, [], ◌∷◌, map, Option, Some, None, Bool, true, false, ◌&&◌, ◌||◌, cond, slice_get}
+use Rattle.std.proofs.Common.{◌≡◌, refl, sym, ap, ◌∙◌, subst, ◌⊎◌, inl, inr, ℕ, ◌++◌, List, [], ◌∷◌, map, Option, Some, None, Bool, true, false, ◌&&◌, ◌||◌, cond, codes, slice_get}
 use Rattle.std.specs.List.{list_all}
 use Rattle.ecma_kind.specs.declared.kind.Kind.{Kind}
 use Rattle.ecma_kind.specs.declared.kind.Kind.TheVariants as kind
 use Rattle.ecma_tree.specs.declared.node.Node.{Node, out-Node}
 use Rattle.ecma_runs.specs.Values.{Value, Undefined, Own}
-use Rattle.ecma_runs.specs.State.{Id, Entered, Activation, Plain, Closure, Code, Object, State}
-use Rattle.ecma_runs.specs.Run.{Ended, TurnsSpent, Run, then_outcome, ◌>>=◌, give, when}
-use Rattle.ecma_runs.specs.Environment.{Reference, ToValue, empty, is_among, set_variable, set_all, initialize, initialize_one}
+use Rattle.ecma_runs.specs.State.{Id, Entered, Binding, Activation, Sort, Plain, Method, Closure, Code, Entry, Object, State}
+use Rattle.ecma_runs.specs.Run.{Ended, TurnsSpent, Run, then_outcome, ◌>>=◌, give, outside, when}
+use Rattle.ecma_runs.specs.Environment.{Reference, ToValue, empty, is_among, initialize, initialize_one}
 use Rattle.ecma_runs.specs.Meaning.{Invocation, AsCall, ExecutionContext, inside, Meaning}
 use Rattle.ecma_runs.specs.Objects.{new_object, callable_in, code_in, Function, calling_of}
 use Rattle.ecma_runs.specs.Declarations.{all_names, has_no_effect}
 use Rattle.ecma_runs.specs.Patterns.{all_parameters}
-use Rattle.ecma_runs.specs.Functions.{prototype_entries, function_object, closure_of, callee_by, call, call_calling, call_own}
+use Rattle.ecma_runs.specs.Functions.{prototype_entries, function_entries, open_entries, plain_object, function_object, closure_of, new_function, callee_by, call, call_calling, call_own}
 use Rattle.ecma_runs.specs.Expressions.{function_value, chained, continued, call_by, call_link}
 use Rattle.ecma_runs.specs.Classes.{run_code}
-use Rattle.ecma_runs.specs.Evaluation.{as_it_is, called_with, entered, role_by, no_effect, meaning_by, meaning, invoked, closure_context, invoke_closure, functions_with, apply_at, apply}
+use Rattle.ecma_runs.specs.Evaluation.{in_record, as_it_is, called_with, entered, role_by, no_effect, meaning_by, meaning, invoked, closure_context, invoke_closure, functions_with, apply_at, apply}
 use Rattle.ecma_runs.proofs.Layer.{meaning_out}
 use Rattle.ecma_runs.proofs.Names.{among_first}
 use Rattle.ecma_runs.proofs.Scopes.{ids_of-empties}
 use Rattle.ecma_judge_runs.specs.Still.{Still}
 use Rattle.ecma_judge_runs.specs.Called.{is_function_expression, called, AppliesFunctions}
-use Rattle.ecma_judge_runs.specs.Idle.{is_named_by, is_named, is_plain_by, is_plain, are_plain_by, are_plain, has_none_by, has_none, is_empty_by, is_empty, does_nothing_by, does_nothing, is_harmless_by, is_harmless}
+use Rattle.ecma_judge_runs.specs.Idle.{is_named_by, is_named, is_plain_by, is_plain, are_plain_by, are_plain, has_none_by, has_none, is_empty_by, is_empty, is_harmless_by, is_harmless}
 use Rattle.ecma_judge.specs.Parts.{passes_at}
 use Rattle.ecma_judge_runs.proofs.Passing.{passes_second}
 use Rattle.ecma_judge_runs.proofs.Callees.{some_leaves}
 use Rattle.ecma_judge_runs.proofs.Both.{both_true, two_true}
 use Rattle.ecma_judge_runs.proofs.Fronts.{last_at, front_at}
 use Rattle.ecma_judge_runs.proofs.Leaving.{LeavesBy, Leaves, bind_by, bind_leaves, give_leaves, outside_leaves, when_leaves, returned_by_leaves, spend_leaves}
-use Rattle.ecma_judge_runs.proofs.Keeping.{Any, FollowsIn, LeavesFrom, bind_from, of_leaves, leaves_of, leaves_by_of, kept_from, where_alone_from, give_from, when_from, outside_from}
+use Rattle.ecma_judge_runs.proofs.Keeping.{Any, FollowsIn, LeavesFrom, bind_from, of_leaves, leaves_of, leaves_by_of, kept_from, where_alone_from, give_from, when_from}
 use Rattle.ecma_judge_runs.proofs.Records.{Readable, NewRecord, new_environment_as, new_environment_by, set_variable_leaves}
 use Rattle.ecma_judge_runs.proofs.Objects.{new_object_leaves}
+use Rattle.ecma_judge_runs.proofs.Data.{set_all_from}
 
 -- ---- names among others
 
@@ -135,63 +136,65 @@ module _ (old : State) where
       bind_leaves old (parameters_leaves y place new parameters plain among arguments)
       (λ _. when_leaves old _ (body_leaves (inside y place) (meaning parameters).names body empty') (outside_leaves old))
 
-  entered_by : (y : ExecutionContext) (activation : Option Activation) (arguments : List Value) (n : Node) (k : Kind) (cs : List Node) → does_nothing_by k cs ≡ true
+  -- of what has no code, a call is open
+  open_leaves : (y : ExecutionContext) (bindings : List Binding) (activation : Option Activation) → Leaves old (in_record bindings activation (λ z. outside) as_it_is y)
+  open_leaves y bindings activation =
+      bind_by old (new_environment_by old bindings activation) (λ place new. bind_leaves old (returned_by_leaves old {A = Unit {0}} (λ _. Undefined) (outside_leaves old)) (λ v. give_leaves old v))
+
+  entered_by : (y : ExecutionContext) (activation : Option Activation) (arguments : List Value) (n : Node) (k : Kind) (cs : List Node) → is_harmless_by k cs ≡ true
       → Leaves old (entered (meaning_by n k (map meaning cs)) activation arguments as_it_is y)
   entered_by y activation arguments n (kind.Function false false) (parameters ∷ body ∷ types ∷ return_type ∷ []) h =
       let t = both_true (are_plain parameters) (is_empty body) h in
       bind_by old (new_environment_as old (map (empty false) (meaning parameters).names) activation) (λ place new.
       bind_leaves old (returned_by_leaves old (λ _. Undefined) (code_leaves y place new.0 parameters body t.0 t.1
       (subst (λ ids. all_among (meaning parameters).names ids ≡ true) (sym (new.1 ∙ ids_of-empties false (meaning parameters).names)) (among_itself (meaning parameters).names)) arguments)) (λ v. give_leaves old v))
+  entered_by y activation arguments n (kind.Function false true) cs h = open_leaves y [] activation
+  entered_by y activation arguments n (kind.Function true is_async) cs h = open_leaves y [] activation
   entered_by y activation arguments n k cs h = absurd (cc)
 
   -- a function that does nothing is called
-  entered_leaves : (y : ExecutionContext) (activation : Option Activation) (arguments : List Value) (n : Node) → does_nothing n ≡ true → Leaves old (entered (meaning n) activation arguments as_it_is y)
+  entered_leaves : (y : ExecutionContext) (activation : Option Activation) (arguments : List Value) (n : Node) → is_harmless n ≡ true → Leaves old (entered (meaning n) activation arguments as_it_is y)
   entered_leaves y activation arguments n h = subst (λ m. Leaves old (entered m activation arguments as_it_is y)) (sym (meaning_out n)) (entered_by y activation arguments n (out-Node n).kind (out-Node n).children h)
 
 -- ---- its object
+
+-- a call of a function of this kind comes to its code
+abbrev is_entered : Sort → Bool
+is_entered Plain = true
+is_entered Method = true
+is_entered sort = false
 
 pub record IsIdleAt (f : ℕ) (objects : List Object) : Type 0 where
   pub object : Object
   pub closure : Closure
   pub at : slice_get objects f ≡ Some object
   pub code : object.callable ≡ Some (Code closure)
-  pub sort : closure.sort ≡ Plain
-  pub idle : does_nothing closure.node ≡ true
+  pub enters : is_entered closure.sort ≡ true
+  pub idle : is_harmless closure.node ≡ true
 
 still_idle : (f : ℕ) (s t : State) → Still s t → IsIdleAt f s.objects → IsIdleAt f t.objects
-still_idle f s t still h = record { object = h.object; closure = h.closure; at = front_at s.objects t.objects f h.object still.objects h.at; code = h.code; sort = h.sort; idle = h.idle }
+still_idle f s t still h = record { object = h.object; closure = h.closure; at = front_at s.objects t.objects f h.object still.objects h.at; code = h.code; enters = h.enters; idle = h.idle }
 
 module _ (old : State) where
   abbrev Idle : ℕ → State → Type 0
   Idle f s = IsIdleAt f s.objects
 
-  -- a function's object, with its prototype
-  abbrev function_of : ExecutionContext → Node → ℕ → Object
-  function_of x n place = function_object (prototype_entries true place) None (Code (closure_of n Plain None x))
+  new_idle : (x : ExecutionContext) (entries : List Entry) (parent : Option ℕ) (n : Node) (sort : Sort) → is_entered sort ≡ true → is_harmless n ≡ true → LeavesFrom old Any Idle (new_function entries parent n sort None x)
+  new_idle x entries parent n sort is h =
+      let o : Object = function_object entries parent (Code (closure_of n sort None x)) in
+      record { at = λ s g r. (((new_object_leaves old o).at s g).0, record { object = o; closure = closure_of n sort None x; at = last_at s.objects o; code = refl; enters = is; idle = h }) }
 
-  new_idle : (x : ExecutionContext) (n : Node) (place : ℕ) → does_nothing n ≡ true → LeavesFrom old Any Idle (new_object (function_of x n place))
-  new_idle x n place h = record {
-    at = λ s g r. (
-      ((new_object_leaves old (function_of x n place)).at s g).0,
-      record { object = function_of x n place; closure = closure_of n Plain None x; at = last_at s.objects (function_of x n place); code = refl; sort = refl; idle = h },
-    );
-  }
-
-  made_by : (x : ExecutionContext) (n : Node) (k : Kind) (cs : List Node) → (does_nothing_by k cs ≡ true → does_nothing n ≡ true) → is_harmless_by k cs ≡ true
+  made_by : (x : ExecutionContext) (n : Node) (k : Kind) (cs : List Node) → (is_harmless_by k cs ≡ true → is_harmless n ≡ true) → is_harmless_by k cs ≡ true
       → LeavesFrom old Any Idle ((meaning_by n k (map meaning cs)).made Plain None x)
-  made_by x n (kind.Function false false) cs up h = bind_from old (of_leaves old {R = Any} (new_object_leaves old _)) (λ place. new_idle x n place (up h))
-  made_by x n (kind.Function is_generator is_async) cs up h = outside_from old
+  made_by x n (kind.Function false false) cs up h = bind_from old (of_leaves old {R = Any} (new_object_leaves old _)) (λ place. new_idle x (prototype_entries true place) None n Plain refl (up h))
+  made_by x n (kind.Function false true) cs up h = new_idle x function_entries None n Method refl (up h)
+  made_by x n (kind.Function true is_async) cs up h =
+      bind_from old (of_leaves old {R = Any} (new_object_leaves old _)) (λ above. bind_from old (of_leaves old {R = Any} (new_object_leaves old (plain_object [] (Some above)))) (λ place.
+      bind_from old (of_leaves old {R = Any} (new_object_leaves old (plain_object (open_entries (codes "prototype" ∷ [])) None))) (λ functions. new_idle x (prototype_entries true place) (Some functions) n Method refl (up h))))
   made_by x n k cs up h = absurd (cc)
 
   made_idle : (x : ExecutionContext) (n : Node) → is_harmless n ≡ true → LeavesFrom old Any Idle ((meaning n).made Plain None x)
   made_idle x n h = subst (λ m. LeavesFrom old Any Idle (m.made Plain None x)) (sym (meaning_out n)) (made_by x n (out-Node n).kind (out-Node n).children (λ is. is) h)
-
-  set_variable_idle : (f : ℕ) (place : Entered) (id : Id) (v : Value) → NewRecord old place → LeavesFrom old (Idle f) (λ a s. Idle f s) (set_variable place.place id v)
-  set_variable_idle f place id v new = record { at = λ s g h. (((set_variable_leaves old place.place id v new).at s g).0, h) }
-
-  set_all_idle : (f : ℕ) (ids : List Id) (place : Entered) (v : Value) → NewRecord old place → LeavesFrom old (Idle f) (λ a s. Idle f s) (set_all ids place.place v)
-  set_all_idle f [] place v new = give_from old tt (λ s h. h)
-  set_all_idle f (id ∷ ids) place v new = bind_from old (set_variable_idle f place id v new) (λ _. set_all_idle f ids place v new)
 
   -- what the expression refers to
   abbrev RefersToIdle : Reference → State → Type 0
@@ -202,10 +205,22 @@ module _ (old : State) where
     value_idle ids function h =
         bind_from old {P = λ v s. (f : ℕ) × (v ≡ Own f) × Idle f s}
         (bind_from old (of_leaves old {R = Any} (new_environment_by old (map (empty true) ids) None)) (λ place. where_alone_from old (λ new.
-        bind_from old (made_idle (inside x place) function h) (λ f. bind_from old (set_all_idle f ids place (Own f) new) (λ _. give_from old (Own f) (λ s i. (f, refl, i)))))))
+        bind_from old (made_idle (inside x place) function h) (λ f. bind_from old (set_all_from old (IsIdleAt f) ids place.place (Own f) new) (λ _. give_from old (Own f) (λ s i. (f, refl, i)))))))
         (λ v. give_from old (ToValue v) (λ s i. (i.0, ap ToValue i.1, i.2)))
 
     -- ---- its call
+
+    invoked_leaves : (m : Meaning) (f : ℕ) (home : Option ℕ) (sort : Sort) (vs : List Value) (y : ExecutionContext) → is_entered sort ≡ true
+        → Leaves old (entered m (Some (called_with Undefined f home vs)) vs as_it_is y) → Leaves old (invoked m f home sort (AsCall Undefined) vs y)
+    invoked_leaves m f home Plain vs y is h = h
+    invoked_leaves m f home Method vs y is h = h
+    invoked_leaves m f home sort vs y is h = absurd (cc)
+
+    calling_follows : (f : ℕ) (sort : Sort) (vs : List Value) (s : State) → is_entered sort ≡ true
+        → FollowsIn old (λ v t. Unit {0}) (x.functions.invoke f (AsCall Undefined) vs s) → FollowsIn old (λ v t. Unit {0}) (call_calling x f Undefined vs (Some (Function sort)) s)
+    calling_follows f Plain vs s is h = h
+    calling_follows f Method vs s is h = h
+    calling_follows f sort vs s is h = absurd (cc)
 
     module _ (applies : AppliesFunctions x) where
       apply_at_idle : (inner : ℕ → Invocation → List Value → Run Value) (f : ℕ) (vs : List Value) → LeavesFrom old (Idle f) (λ v s. Unit {0}) (apply_at inner x.provided x.known f (AsCall Undefined) vs)
@@ -214,8 +229,8 @@ module _ (old : State) where
             let functions = functions_with inner x.provided x.known in
             subst (λ z. FollowsIn old (λ v s. Unit {0}) (invoke_closure functions x.provided x.known f (AsCall Undefined) vs (code_in (callable_in z)) s)) (sym h.at)
             (subst (λ z. FollowsIn old (λ v s. Unit {0}) (invoke_closure functions x.provided x.known f (AsCall Undefined) vs (code_in z) s)) (sym h.code)
-            (subst (λ z. FollowsIn old (λ v s. Unit {0}) (invoked (meaning h.closure.node) f h.closure.home z (AsCall Undefined) vs (closure_context functions x.provided x.known h.closure) s)) (sym h.sort)
-            ((of_leaves old {R = Any} (entered_leaves old (closure_context functions x.provided x.known h.closure) (Some (called_with Undefined f h.closure.home vs)) vs h.closure.node h.idle)).at s g tt)));
+            ((of_leaves old {R = Any} (invoked_leaves (meaning h.closure.node) f h.closure.home h.closure.sort vs (closure_context functions x.provided x.known h.closure) h.enters
+            (entered_leaves old (closure_context functions x.provided x.known h.closure) (Some (called_with Undefined f h.closure.home vs)) vs h.closure.node h.idle))).at s g tt));
       }
 
       apply_idle : (inner : ℕ → Invocation → List Value → Run Value) (f : ℕ) (vs : List Value) → LeavesFrom old (Idle f) (λ v s. Unit {0}) (apply inner x.provided x.known f (AsCall Undefined) vs)
@@ -233,8 +248,7 @@ module _ (old : State) where
         at = λ s g h.
             subst (λ z. FollowsIn old (λ v t. Unit {0}) (then_outcome (calling_of (callable_in z) s) (λ o. call_calling x f Undefined vs o))) (sym h.at)
             (subst (λ z. FollowsIn old (λ v t. Unit {0}) (then_outcome (calling_of z s) (λ o. call_calling x f Undefined vs o))) (sym h.code)
-            (subst (λ z. FollowsIn old (λ v t. Unit {0}) (call_calling x f Undefined vs (Some (Function z)) s)) (sym h.sort)
-            (invoke_follows f vs s g h (applies f (AsCall Undefined) vs s))));
+            (calling_follows f h.closure.sort vs s h.enters (invoke_follows f vs s g h (applies f (AsCall Undefined) vs s))));
       }
 
       -- on values that are there

@@ -29,7 +29,7 @@ use Rattle.ecma_judge_runs.proofs.Keeping.{Any, LeavesFrom, bind_from, of_leaves
 use Rattle.ecma_judge_runs.proofs.Records.{NewRecord, Readable, new_environment_as, new_environment_by}
 use Rattle.ecma_judge_runs.proofs.Objects.{NewObject}
 use Rattle.ecma_judge_runs.proofs.Reading.{read_leaves}
-use Rattle.ecma_judge_runs.proofs.Data.{IsDataAt, still_data, Keeps, keeps_data, give_keeps, define_data_keeps, define_method_keeps, keep_field_keys_keeps, new_data_from, new_prototype_from, new_class_from, make_function_from, set_all_keeps}
+use Rattle.ecma_judge_runs.proofs.Data.{IsDataIn, IsDataAt, IsReadIn, IsReadAt, still_data, Keeps, keeps_data, give_keeps, define_data_keeps, define_method_keeps, keep_field_keys_keeps, new_data_from, new_prototype_from, new_class_from, make_function_from, set_all_from}
 use Rattle.ecma_judge_runs.proofs.Meanings.{NamesApart, Apart, apart_inside, within, Makes, Quiet, Place, IsNew, RefersToNew, Claimed, meanings, judgements, takens, HasNone, IsTaken, first_quiet, second_whole}
 use Rattle.ecma_judge_runs.proofs.Expressions.{asked, identifier_by}
 use Rattle.ecma_judge_runs.proofs.Classes.{literal_key_leaves}
@@ -160,10 +160,10 @@ module _ (ctx : ExprCtx) (sure : Assumed) (off : ctx.is_unresolved_ref_safe ≡ 
       class_behind prototype new_prototype_place class new_class before =
           bind_from old (body.1.defines none whole true here class prototype before old (entered ∷ scope) inner new_class new_prototype_place) (λ keys.
           bind_from old (keep_field_keys_keeps old class class keys new_class) (λ _.
-          bind_from old (set_all_keeps old class names entered.place (Own class) new) (λ _.
+          bind_from old (set_all_from old (IsDataIn class) names entered.place (Own class) new) (λ _.
           bind_from old (kept_by old (λ place. place.ids ≡ []) (IsDataAt class) (still_data class) (λ s. weaker s (λ place h. h.1) (new_environment_as s [] (Some (field_activation (Own class) (Some class))))))
           (λ place. where_from old (λ no_ids.
-          bind_from old (body.1.sets none whole keys class old (place ∷ entered ∷ scope) (apart_inside ctx sure place (entered ∷ scope) [] no_ids (λ g. refl) inner) new_class) (λ _. give_from old (Own class) (λ s d. (class, refl, d))))))))
+          bind_from old (body.1.sets none whole keys class old (place ∷ entered ∷ scope) (apart_inside ctx sure place (entered ∷ scope) [] no_ids (λ g. refl) inner) new_class) (λ _. give_from old (Own class) (λ s d. (class, refl, inl d))))))))
 
       class_in_read : LeavesFrom old Any IsNew (class_in n (meaning super.0) (meaning body.0) names entered (within ctx sure x scope))
       class_in_read =
@@ -196,12 +196,15 @@ module _ (ctx : ExprCtx) (sure : Assumed) (off : ctx.is_unresolved_ref_safe ≡ 
 
   module _ (old : State) (scope : List Entered) (apart : Apart ctx sure scope) where
     give_new : (o : ℕ) → LeavesFrom old (IsDataAt o) IsNew (give (Own o))
-    give_new o = give_from old (Own o) (λ s d. (o, refl, d))
+    give_new o = give_from old (Own o) (λ s d. (o, refl, inl d))
+
+    give_read : (o : ℕ) → LeavesFrom old (IsReadAt o) IsNew (give (Own o))
+    give_read o = give_from old (Own o) (λ s r. (o, refl, r))
 
     function_read : (ids : List Id) (function : Meaning) → Makes ctx sure x function → LeavesFrom old Any IsNew (function_value ids function (within ctx sure x scope))
     function_read ids function made =
         bind_from old (of_leaves old {R = Any} (new_environment_by old (map (empty true) ids) None)) (λ entered. where_alone_from old (λ new.
-        bind_from old (made Plain None old (entered ∷ scope)) (λ f. bind_from old (set_all_keeps old f ids entered.place (Own f) new) (λ _. give_new f))))
+        bind_from old (made Plain None old (entered ∷ scope)) (λ f. bind_from old (set_all_from old (IsReadIn f) ids entered.place (Own f) new) (λ _. give_read f))))
 
     value_read : (n : Node) (k : Kind) (ns : List (Claimed ctx sure x)) → HasNone ctx sure x n k ns → read_by ctx x.known.declared sure k (takens ctx sure x ns) ≡ true → reading_may_call_by k n ≡ false
         → LeavesFrom old Any IsNew (value_of n k (meanings ctx sure x ns) (within ctx sure x scope))
@@ -217,11 +220,11 @@ module _ (ctx : ExprCtx) (sure : Assumed) (off : ctx.is_unresolved_ref_safe ≡ 
         let w = both_true (not sure.globals || (taken ctx x.known.declared sure name.0).named) (taken ctx x.known.declared sure class.0).in_class u.1 in
         class.1.class_read none u.0 w.1 (meaning name.0).names (λ g. name.1.named (asked sure.globals (taken ctx x.known.declared sure name.0).named w.0 g)) old scope apart
     value_read n kind.FnExpr (name ∷ function ∷ []) none read plain = function_read (meaning name.0).names (meaning function.0) function.1.made
-    value_read n (kind.ArrowExpr false false) ns none read plain = bind_from old (make_function_from old (within ctx sure x scope) n Arrow None) (λ f. give_new f)
+    value_read n (kind.ArrowExpr is_async false) ns none read plain = bind_from old (make_function_from old (within ctx sure x scope) n Arrow None) (λ f. give_new f)
     value_read n kind.ObjectLit ns none read plain = outside_from old
     value_read n kind.ClassExpr ns none read plain = outside_from old
     value_read n kind.FnExpr ns none read plain = outside_from old
-    value_read n (kind.ArrowExpr is_async is_generator) ns none read plain = outside_from old
+    value_read n (kind.ArrowExpr is_async true) ns none read plain = outside_from old
     value_read n k ns none read plain = absurd (cc)
 
     as_reference : (m : Run Value) → LeavesFrom old Any IsNew m → LeavesFrom old Any RefersToNew (m >>= λ v. give (ToValue v))

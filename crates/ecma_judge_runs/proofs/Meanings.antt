@@ -26,7 +26,7 @@ use Rattle.ecma_judge_runs.proofs.Leaving.{LeavesBy, Leaves}
 use Rattle.ecma_judge_runs.proofs.Keeping.{Any, LeavesFrom}
 use Rattle.ecma_judge_runs.proofs.Records.{Readable}
 use Rattle.ecma_judge_runs.proofs.Objects.{NewObject}
-use Rattle.ecma_judge_runs.proofs.Data.{IsDataAt, Keeps, ReadableIn}
+use Rattle.ecma_judge_runs.proofs.Data.{IsReadAt, Keeps, ReadableIn}
 
 -- ---- what is asked of a node, by its kind and its children
 
@@ -97,9 +97,9 @@ module _ (ctx : ExprCtx) (sure : Assumed) where
     abbrev pub Evaluates : {A : Type 0} → (ExecutionContext → Run A) → Type 0
     Evaluates e = (old : State) (scope : List Entered) → Apart scope → Leaves old (e (within scope))
 
-    -- to make a function's object changes nothing, and the object has no accessor
+    -- to make a function's object changes nothing, and no accessor is found from the object
     abbrev pub Makes : Meaning → Type 0
-    Makes m = (sort : Sort) (home : Option ℕ) (old : State) (scope : List Entered) → LeavesFrom old Any (λ f s. IsDataAt f s) (m.made sort home (within scope))
+    Makes m = (sort : Sort) (home : Option ℕ) (old : State) (scope : List Entered) → LeavesFrom old Any (λ f s. IsReadAt f s) (m.made sort home (within scope))
 
     -- nor does to evaluate it, in each of these roles; properties are defined on new objects
     pub record Quiet (m : Meaning) : Type 0 where
@@ -118,12 +118,12 @@ abbrev pub Place : Bool → ℕ → ℕ → Type 0
 Place true kept object = object < kept
 Place false kept object = object ≡ kept
 
--- a new object without accessors
+-- a new object from which no accessor is found
 abbrev pub IsNew : Value → State → Type 0
-IsNew v s = (o : ℕ) × (v ≡ Own o) × IsDataAt o s
+IsNew v s = (o : ℕ) × (v ≡ Own o) × IsReadAt o s
 
 abbrev pub RefersToNew : Reference → State → Type 0
-RefersToNew r s = (o : ℕ) × (r ≡ ToValue (Own o)) × IsDataAt o s
+RefersToNew r s = (o : ℕ) × (r ≡ ToValue (Own o)) × IsReadAt o s
 
 module _ (ctx : ExprCtx) (sure : Assumed) (x : ExecutionContext) where
   -- what is shown of each node

@@ -1,16 +1,17 @@
 -- What reads objects leaves all as it was, and so does what changes new ones.
-use Rattle.std.proofs.Common.{ℕ, ◌≤◌, length, List, Option, Some, None, true, codes, slice_get}
+use Rattle.std.proofs.Common.{ℕ, pos, ◌≤◌, length, List, [], ◌∷◌, Option, Some, None, true, codes, slice_get}
+use Rattle.ecma_number.specs.declared.js_number.JsNumber.TheVariants.{Whole}
 use Rattle.ecma_kind.specs.declared.operators.MethodKind.{MethodKind}
 use Rattle.ecma_kind.specs.declared.operators.MethodKind.TheVariants as method
 use Rattle.ecma_tree.specs.declared.node.Node.{Node}
 use Rattle.ecma_runs.specs.declared.shown.ErrorKind.TheVariants as error
-use Rattle.ecma_runs.specs.Values.{Value, Null, Truth, Text, Own, Host, Error}
+use Rattle.ecma_runs.specs.Values.{Value, Null, Truth, Number, Text, Own, Host, Error}
 use Rattle.ecma_runs.specs.State.{Sort, Plain, Method, Arrow, BaseClass, DerivedClass, Callable, Code, Bound, Passed, Property, Data, Fixed, Accessor, Open, Entry, Extent, Ordinary, Array, ArgumentList, Object, State}
 use Rattle.ecma_runs.specs.Run.{Run}
 use Rattle.ecma_runs.specs.Meaning.{ExecutionContext}
 use Rattle.ecma_runs.specs.Objects.{new_object, callable_in, Calling, Function, BoundFunction, calling_of, calling_at, extent_at, is_index_below, own_property_at, found_from, with_entries, change_entries, put_entry, is_fixed, if_element, define, define_data, with_getter, with_setter, new_array}
 use Rattle.ecma_runs.specs.Members.{is_there, has_member, inherits, prototype_value, prototype_property, instance_by, instance_of_function, instance_of_calling, instance_of, type_by, type_of}
-use Rattle.ecma_runs.specs.Functions.{new_prototype, new_function, prototype_entries, function_entries, make_function}
+use Rattle.ecma_runs.specs.Functions.{new_prototype, new_function, prototype_entries, function_entries, make_function, plain_object, new_regular_expression}
 use Rattle.ecma_runs.specs.Classes.{checked_target, checked_calling, parent_class, parent_prototype, keeping_keys, keep_field_keys, define_method}
 use Rattle.ecma_judge_runs.proofs.Fronts.{front_push, front_changed, front_length}
 use Rattle.ecma_judge_runs.proofs.Leaving.{LeavesBy, Leaves, bind_by, bind_leaves, weaker, give_leaves, throw_leaves, outside_leaves, when_leaves}
@@ -119,6 +120,10 @@ module _ (old : State) where
   make_function_leaves x n Arrow home = new_function_leaves x function_entries n Arrow home
   make_function_leaves x n BaseClass home = new_function_leaves x function_entries n BaseClass home
   make_function_leaves x n DerivedClass home = new_function_leaves x function_entries n DerivedClass home
+
+  pub new_regular_expression_leaves : Leaves old new_regular_expression
+  new_regular_expression_leaves =
+      bind_leaves old (new_object_leaves _) (λ above. new_object_leaves (plain_object (record { key = codes "lastIndex"; property = Fixed true (Number (Whole (pos 0))) } ∷ []) (Some above)))
 
   -- `in`, `instanceof`, `typeof`, and the parents of a class
 

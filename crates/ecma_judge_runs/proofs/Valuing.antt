@@ -20,7 +20,7 @@ use Rattle.ecma_runs.specs.State.{Id, Plain, Ordinary}
 use Rattle.ecma_runs.specs.Run.{Run, ◌>>=◌, given}
 use Rattle.ecma_runs.specs.Environment.{empty, new_environment, set_all}
 use Rattle.ecma_runs.specs.Objects.{new_object, new_array}
-use Rattle.ecma_runs.specs.Functions.{read, read_object, write}
+use Rattle.ecma_runs.specs.Functions.{read, read_object, write, new_regular_expression}
 use Rattle.ecma_runs.specs.Operators.{number_from, updated}
 use Rattle.ecma_runs.specs.Meaning.{ExecutionContext, inside, Meaning}
 use Rattle.ecma_runs.specs.Evaluation.{meaning}
@@ -86,6 +86,7 @@ module _ (ctx : ExprCtx) (objects : Bool) (x : ExecutionContext) (known : object
   value_gives n (kind.Number number raw) [] shape is = number_fits ctx own n number raw []
   value_gives n (kind.Bool truth) [] shape is = give_gives (Truth truth) (record { truth = refl; number = bool_has_number truth; text = bool_has_text truth; type = refl })
   value_gives n kind.Null [] shape is = give_gives Null (record { truth = refl; number = λ m e. sym (some_same _ m e); text = λ t e. sym (some_same _ t e); type = refl })
+  value_gives n (kind.Regex exp flags) [] shape is = then_gives new_regular_expression (λ o. give_gives (Own o) (record { truth = refl; number = tt; text = tt; type = refl }))
   value_gives n kind.Tpl (expressions ∷ parts ∷ []) shape is =
       then_gives (given (meaning parts.0).cooked) (λ ps. then_gives ((meaning expressions.0).texts x) (λ ts. give_gives (Text (interleaved ps ts)) (record { truth = tt; number = tt; text = tt; type = refl })))
   value_gives n kind.ArrayLit (elements ∷ []) shape is =

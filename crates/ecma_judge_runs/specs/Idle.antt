@@ -52,7 +52,7 @@ does_nothing_by k children = false
 abbrev pub does_nothing : Node → Bool
 does_nothing n = does_nothing_by (out-Node n).kind (out-Node n).children
 
--- and neither does a call of an async function or a generator, which is open where it is made
+-- and neither does a call of an async function or a generator, which is open
 abbrev pub is_harmless_by : Kind → List Node → Bool
 is_harmless_by (kind.Function false false) children = does_nothing_by (kind.Function false false) children
 is_harmless_by (kind.Function is_generator is_async) children = true

@@ -223,7 +223,8 @@ module _ (swap : Node → Node) (same : (n : Node) → ReadsAlike (meaning n) (m
         → meaning_by n (kind.ArrowExpr is_async is_generator) (meaning parameters ∷ meaning (swap body) ∷ meaning types ∷ meaning return_type ∷ [])
         ≡ meaning_by n (kind.ArrowExpr is_async is_generator) (meaning parameters ∷ meaning body ∷ meaning types ∷ meaning return_type ∷ [])
     arrow_seat false false parameters body types return_type = ap (λ m. meaning_by n (kind.ArrowExpr false false) (meaning parameters ∷ m ∷ meaning types ∷ meaning return_type ∷ [])) (read_is body)
-    arrow_seat true is_generator parameters body types return_type = ap (λ m. meaning_by n (kind.ArrowExpr true is_generator) (meaning parameters ∷ m ∷ meaning types ∷ meaning return_type ∷ [])) (read_is body)
+    arrow_seat true false parameters body types return_type = ap (λ m. meaning_by n (kind.ArrowExpr true false) (meaning parameters ∷ m ∷ meaning types ∷ meaning return_type ∷ [])) (read_is body)
+    arrow_seat true true parameters body types return_type = ap (λ m. meaning_by n (kind.ArrowExpr true true) (meaning parameters ∷ m ∷ meaning types ∷ meaning return_type ∷ [])) (read_is body)
     arrow_seat false true parameters body types return_type = ap (λ m. meaning_by n (kind.ArrowExpr false true) (meaning parameters ∷ m ∷ meaning types ∷ meaning return_type ∷ [])) (read_is body)
 
     -- seats

@@ -16,14 +16,14 @@ use Rattle.ecma_runs.specs.Classes.{class_in, made_of, default_made_of, body_of,
 use Rattle.ecma_runs.specs.Declarations.{all_shorthands, shorthands_of, locals_of, default_names_of}
 use Rattle.ecma_runs.proofs.Names.{changed_entered, changed_scope, changed_ids, changed_bindings, changed_bindings-append, except-changed}
 use Rattle.ecma_runs.specs.Sought.{meanings, all_sought, all_code_sought, sought_by_body, code_sought_of, sought_of, body_sought_of}
-use Rattle.ecma_runs.proofs.Names.{Unless, unless_map, unless_both, EachTold, each_unless, among_first}
-use Rattle.ecma_runs.proofs.Scopes.{ids_of-empties, Opens, opened, in_empty, body_stands, named_stand, not_caught, each_told, one, two, rest}
+use Rattle.ecma_runs.proofs.Names.{Unless, unless_is, unless_map, unless_both, EachTold, each_unless, among_first}
+use Rattle.ecma_runs.proofs.Scopes.{ids_of-empties, Opens, opened, nothing_opens, in_empty, body_stands, named_stand, not_caught, each_told, one, two, rest}
 use Rattle.ecma_runs.proofs.Alike.{Change, Standing, Alike, bind_by, bind_alike, give_alike, throw_alike, return_alike, outside_alike, when_alike}
 use Rattle.ecma_runs.proofs.Environments.{beside, Knows, enter_alike, set_all_alike, KeepTexts, resolved_alike}
 use Rattle.ecma_runs.proofs.Objects.{calling_at_alike, define_alike, define_data_alike, keep_field_keys_alike}
 use Rattle.ecma_runs.proofs.Meanings.{at, World, first, second, inward, later, newest, within, Both, seekers, firsts, seconds, empties}
 use Rattle.ecma_runs.proofs.Members.{prototype_property_alike}
-use Rattle.ecma_runs.proofs.Functions.{read_alike, super_call_alike, new_prototype_alike, new_function_alike, MayKeep, make_function_alike}
+use Rattle.ecma_runs.proofs.Functions.{read_alike, super_call_alike, new_prototype_alike, new_function_alike, MayKeep, make_function_alike, make_generator_alike}
 use Rattle.ecma_runs.proofs.Premises.{renamed_kind, StillClash, KeptLayer, InBody, OpensLayer, Outlined, PlacedNode}
 use Rattle.ecma_runs.proofs.Lists.{all_stay, all_code_alike, all_defined_alike, all_fields_alike, all_statics_alike}
 use Rattle.ecma_runs.proofs.Expressions.{keeps_whole, value_alike}
@@ -46,6 +46,10 @@ module _ (c : Change) {a : List Entered} (w : World (at c a)) where
 
   pub made_alike : (n : Node) → c.fine n → (k : Kind) (ps : List (Both c)) → PlacedNode c n w.scope k (seekers c ps) → (sort : Sort) (home : Option ℕ) → Alike d (made_of n k (firsts c ps) sort home (first d w)) (made_of (c.node n) (renamed_kind c k) (seconds c ps) sort home (second d w))
   made_alike n fine (kind.Function false false) ps h sort home = make_function_alike d w n sort home fine (function_keeps n ps h)
+  made_alike n fine (kind.Function false true) ps h sort home =
+      make_function_alike d w n Method home fine (keeps_whole c w n (kind.Function false true) (seekers c ps) h.0.0 (unless_is c.names.plain (nothing_opens c.names _)) h.1)
+  made_alike n fine (kind.Function true is_async) ps h sort home =
+      make_generator_alike d w n home fine (keeps_whole c w n (kind.Function true is_async) (seekers c ps) h.0.0 (unless_is c.names.plain (nothing_opens c.names _)) h.1)
   made_alike n fine _ ps h sort home = outside_alike d
 
   without_default : (b : Bool) (ids sought : List Id) → Standing c w.scope ((cond b (default_name ∷ []) [] ++ ids) ++ sought) → Standing c w.scope (ids ++ sought)

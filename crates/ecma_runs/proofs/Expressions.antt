@@ -22,14 +22,14 @@ use Rattle.ecma_runs.specs.Functions.{read, write, read_object, read_typed, dele
 use Rattle.ecma_runs.specs.Expressions.{meta_member, member_of, member_reference, super_reference, chained, call_by, is_in, applied, binary_rest, logical_rest, compound_rest, assign, unary, update, sequence, interleaved, function_value, value_of, reference_of, continued, callee_is_nullish, member_link, call_link, link_of, chain_of, initial_of, all_arguments, arguments_of, all_elements, elements_of, all_texts, texts_of, key_of, test_of}
 use Rattle.ecma_runs.specs.Members.{type_of}
 use Rattle.ecma_runs.specs.Sought.{Seeker, meanings, all_sought, sought_of}
-use Rattle.ecma_runs.proofs.Names.{Unless, unless_map, unless_both, among_first, changed_ids}
-use Rattle.ecma_runs.proofs.Scopes.{ids_of-empties, Opens, opened, not_caught, each_told, one, two, three, rest}
+use Rattle.ecma_runs.proofs.Names.{Unless, unless_is, unless_map, unless_both, among_first, changed_ids}
+use Rattle.ecma_runs.proofs.Scopes.{ids_of-empties, Opens, opened, nothing_opens, not_caught, each_told, one, two, three, rest}
 use Rattle.ecma_runs.proofs.Alike.{Change, Standing, Alike, bind_by, bind_alike, give_by, give_alike, throw_alike, outside_alike, when_alike, given_alike}
 use Rattle.ecma_runs.proofs.Environments.{beside, NotCaughtIn, enter_alike, set_all_alike, activation_alike, this_alike, changed_reference, KeptReference, AlikeReference, resolved_alike}
 use Rattle.ecma_runs.proofs.Objects.{super_base_alike, new_object_alike, new_array_alike}
 use Rattle.ecma_runs.proofs.Meanings.{at, World, first, second, newest, within, KeptOption, AlikeChain, Both, seekers, firsts, seconds, empties}
 use Rattle.ecma_runs.proofs.Members.{has_member_alike, instance_of_alike, type_of_alike}
-use Rattle.ecma_runs.proofs.Functions.{read_alike, write_alike, read_object_alike, read_typed_alike, delete_alike, callee_by_alike, call_alike, construct_alike, super_call_alike, MayKeep, make_function_alike}
+use Rattle.ecma_runs.proofs.Functions.{read_alike, write_alike, read_object_alike, read_typed_alike, delete_alike, callee_by_alike, call_alike, construct_alike, super_call_alike, new_regular_expression_alike, MayKeep, make_function_alike}
 use Rattle.ecma_runs.proofs.Lists.{all_stay, all_arguments_alike, all_elements_alike, all_texts_alike}
 use Rattle.ecma_runs.proofs.Premises.{renamed_kind, KeptLayer, CodeOpens, IsLayer, PlacedNode}
 
@@ -195,6 +195,7 @@ module _ (c : Change) {a : List Entered} (w : World (at c a)) where
     value_alike (kind.Bool truth) [] kept h = give_alike d (Truth truth)
     value_alike kind.Null [] kept h = give_alike d Null
     value_alike kind.ThisExpr [] kept h = this_alike d w.scope
+    value_alike (kind.Regex pattern' flags) [] kept h = bind_alike d (new_regular_expression_alike d) (λ o. give_alike d (Own o))
     value_alike kind.Tpl (expressions ∷ parts ∷ []) kept h =
         rw (parts.2.cooked) (bind_alike d (given_alike d parts.0.meaning.cooked) (λ qs. bind_alike d (expressions.2.texts w (one c.names _ _ h.0.0)) (λ ts. give_alike d (Text (interleaved qs ts)))))
     value_alike kind.ArrayLit (elements ∷ []) kept h = bind_alike d (elements.2.elements w (one c.names _ _ h.0.0)) (λ es. bind_alike d (new_array_alike d es) (λ o. give_alike d (Own o)))
@@ -202,6 +203,8 @@ module _ (c : Change) {a : List Entered} (w : World (at c a)) where
     value_alike kind.FnExpr (name ∷ function ∷ []) kept h = rw (name.2.names) (function_value_alike name.0.meaning.names _ function h.0.1 h.0.0)
     value_alike kind.ClassExpr (name ∷ class ∷ []) kept h = rw (name.2.names) (class.2.class_made name.0.meaning.names _ h.0.1 w h.0.0)
     value_alike (kind.ArrowExpr false false) ps kept h = bind_alike d (make_function_alike d w n Arrow None fine (arrow_keeps n ps h)) (λ f. give_alike d (Own f))
+    value_alike (kind.ArrowExpr true false) ps kept h =
+        bind_alike d (make_function_alike d w n Arrow None fine (keeps_whole n (kind.ArrowExpr true false) (seekers c ps) h.0.0 (unless_is c.names.plain (nothing_opens c.names _)) h.1)) (λ f. give_alike d (Own f))
     value_alike (kind.UnaryExpr op) (operand ∷ []) kept h = unary_alike op operand (one c.names _ _ h.0.0)
     value_alike (kind.UpdateExpr op prefix) (operand ∷ []) kept h = update_alike op prefix operand (one c.names _ _ h.0.0)
     value_alike (kind.BinExpr op) (left ∷ right ∷ []) kept h = bind_alike d (left.2.value w (one c.names _ _ h.0.0)) (λ v. binary_rest_alike op (short_circuit op v) v right (two c.names _ _ _ h.0.0))

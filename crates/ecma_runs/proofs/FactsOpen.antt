@@ -16,15 +16,6 @@ use Rattle.ecma_runs.proofs.Scripts.{Does, nulls}
 use Rattle.std.specs.Fmt.{digits}
 use Rattle.ecma_number.specs.Arithmetic.{quotient_of}
 
--- f(1); /a/;
-regular_expressions :
-    Does 9 nulls []
-    (statement (call (ident (codes "f")) (whole 1 ▸ End))
-    ▸ statement (tree (kind.Regex (codes "a") (codes "")) End)
-    ▸ End)
-    (HostCall 7 shown.Undefined (shown.Num (js_number.Whole (pos 1)) ∷ []) ∷ []) (ending.Outside)
-regular_expressions = simp meaning_node refl
-
 -- f(1); 1n;
 big_integers :
     Does 9 nulls []

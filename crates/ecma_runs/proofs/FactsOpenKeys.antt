@@ -10,7 +10,7 @@ use Rattle.ecma_kind.specs.declared.operators.VarDeclKind.TheVariants.{Let}
 use Rattle.ecma_runs.specs.declared.observation.Event.TheVariants.{HostCall}
 use Rattle.ecma_runs.specs.declared.observation.Ending.TheVariants as ending
 use Rattle.ecma_runs.specs.declared.shown.Shown.TheVariants as shown
-use Rattle.ecma_runs.proofs.Trees.{End, ◌▸◌, tree, absent, ident, key, computed, whole, string, member, super_member, call, new', assign, unary, binary, parens, array, object, statement, returns, declare, declare_function, arrow, class_method, field, constructor', declare_class, meaning_node}
+use Rattle.ecma_runs.proofs.Trees.{End, ◌▸◌, tree, absent, list, ident, key, computed, binding, whole, string, member, super_member, call, new', assign, unary, binary, parens, array, object, statement, block, returns, declare, declare_function, arrow, class_method, field, constructor', declare_class, meaning_node}
 use Rattle.ecma_runs.proofs.Scripts.{Does, nulls}
 use Rattle.std.specs.Fmt.{digits}
 
@@ -175,6 +175,330 @@ bind_of_functions :
     ▸ End)
     (HostCall 7 shown.Undefined (shown.Num (js_number.Whole (pos 1)) ∷ []) ∷ []) (ending.Outside)
 bind_of_functions = simp meaning_node refl
+
+-- f(1); (function* () {}).prototype.constructor;
+constructor_of_generators :
+    Does 9 nulls []
+    (statement (call (ident (codes "f")) (whole 1 ▸ End))
+    ▸ statement (member (member (parens (tree kind.FnExpr (absent ▸ tree (kind.Function true false) (list End ▸ block End ▸ absent ▸ absent ▸ End) ▸ End))) (codes "prototype")) (codes "constructor"))
+    ▸ End)
+    (HostCall 7 shown.Undefined (shown.Num (js_number.Whole (pos 1)) ∷ []) ∷ []) (ending.Outside)
+constructor_of_generators = simp meaning_node refl
+
+-- f(1); (function* () {}).prototype.next;
+next_of_generators :
+    Does 9 nulls []
+    (statement (call (ident (codes "f")) (whole 1 ▸ End))
+    ▸ statement (member (member (parens (tree kind.FnExpr (absent ▸ tree (kind.Function true false) (list End ▸ block End ▸ absent ▸ absent ▸ End) ▸ End))) (codes "prototype")) (codes "next"))
+    ▸ End)
+    (HostCall 7 shown.Undefined (shown.Num (js_number.Whole (pos 1)) ∷ []) ∷ []) (ending.Outside)
+next_of_generators = simp meaning_node refl
+
+-- f(1); (function* () {}).prototype.return;
+return_of_generators :
+    Does 9 nulls []
+    (statement (call (ident (codes "f")) (whole 1 ▸ End))
+    ▸ statement (member (member (parens (tree kind.FnExpr (absent ▸ tree (kind.Function true false) (list End ▸ block End ▸ absent ▸ absent ▸ End) ▸ End))) (codes "prototype")) (codes "return"))
+    ▸ End)
+    (HostCall 7 shown.Undefined (shown.Num (js_number.Whole (pos 1)) ∷ []) ∷ []) (ending.Outside)
+return_of_generators = simp meaning_node refl
+
+-- f(1); (function* () {}).prototype.throw;
+throw_of_generators :
+    Does 9 nulls []
+    (statement (call (ident (codes "f")) (whole 1 ▸ End))
+    ▸ statement (member (member (parens (tree kind.FnExpr (absent ▸ tree (kind.Function true false) (list End ▸ block End ▸ absent ▸ absent ▸ End) ▸ End))) (codes "prototype")) (codes "throw"))
+    ▸ End)
+    (HostCall 7 shown.Undefined (shown.Num (js_number.Whole (pos 1)) ∷ []) ∷ []) (ending.Outside)
+throw_of_generators = simp meaning_node refl
+
+-- f(1); (function* () {}).prototype.drop;
+drop_of_generators :
+    Does 9 nulls []
+    (statement (call (ident (codes "f")) (whole 1 ▸ End))
+    ▸ statement (member (member (parens (tree kind.FnExpr (absent ▸ tree (kind.Function true false) (list End ▸ block End ▸ absent ▸ absent ▸ End) ▸ End))) (codes "prototype")) (codes "drop"))
+    ▸ End)
+    (HostCall 7 shown.Undefined (shown.Num (js_number.Whole (pos 1)) ∷ []) ∷ []) (ending.Outside)
+drop_of_generators = simp meaning_node refl
+
+-- f(1); (function* () {}).prototype.every;
+every_of_generators :
+    Does 9 nulls []
+    (statement (call (ident (codes "f")) (whole 1 ▸ End))
+    ▸ statement (member (member (parens (tree kind.FnExpr (absent ▸ tree (kind.Function true false) (list End ▸ block End ▸ absent ▸ absent ▸ End) ▸ End))) (codes "prototype")) (codes "every"))
+    ▸ End)
+    (HostCall 7 shown.Undefined (shown.Num (js_number.Whole (pos 1)) ∷ []) ∷ []) (ending.Outside)
+every_of_generators = simp meaning_node refl
+
+-- f(1); (function* () {}).prototype.filter;
+filter_of_generators :
+    Does 9 nulls []
+    (statement (call (ident (codes "f")) (whole 1 ▸ End))
+    ▸ statement (member (member (parens (tree kind.FnExpr (absent ▸ tree (kind.Function true false) (list End ▸ block End ▸ absent ▸ absent ▸ End) ▸ End))) (codes "prototype")) (codes "filter"))
+    ▸ End)
+    (HostCall 7 shown.Undefined (shown.Num (js_number.Whole (pos 1)) ∷ []) ∷ []) (ending.Outside)
+filter_of_generators = simp meaning_node refl
+
+-- f(1); (function* () {}).prototype.find;
+find_of_generators :
+    Does 9 nulls []
+    (statement (call (ident (codes "f")) (whole 1 ▸ End))
+    ▸ statement (member (member (parens (tree kind.FnExpr (absent ▸ tree (kind.Function true false) (list End ▸ block End ▸ absent ▸ absent ▸ End) ▸ End))) (codes "prototype")) (codes "find"))
+    ▸ End)
+    (HostCall 7 shown.Undefined (shown.Num (js_number.Whole (pos 1)) ∷ []) ∷ []) (ending.Outside)
+find_of_generators = simp meaning_node refl
+
+-- f(1); (function* () {}).prototype.flatMap;
+flat_map_of_generators :
+    Does 9 nulls []
+    (statement (call (ident (codes "f")) (whole 1 ▸ End))
+    ▸ statement (member (member (parens (tree kind.FnExpr (absent ▸ tree (kind.Function true false) (list End ▸ block End ▸ absent ▸ absent ▸ End) ▸ End))) (codes "prototype")) (codes "flatMap"))
+    ▸ End)
+    (HostCall 7 shown.Undefined (shown.Num (js_number.Whole (pos 1)) ∷ []) ∷ []) (ending.Outside)
+flat_map_of_generators = simp meaning_node refl
+
+-- f(1); (function* () {}).prototype.forEach;
+for_each_of_generators :
+    Does 9 nulls []
+    (statement (call (ident (codes "f")) (whole 1 ▸ End))
+    ▸ statement (member (member (parens (tree kind.FnExpr (absent ▸ tree (kind.Function true false) (list End ▸ block End ▸ absent ▸ absent ▸ End) ▸ End))) (codes "prototype")) (codes "forEach"))
+    ▸ End)
+    (HostCall 7 shown.Undefined (shown.Num (js_number.Whole (pos 1)) ∷ []) ∷ []) (ending.Outside)
+for_each_of_generators = simp meaning_node refl
+
+-- f(1); (function* () {}).prototype.map;
+map_of_generators :
+    Does 9 nulls []
+    (statement (call (ident (codes "f")) (whole 1 ▸ End))
+    ▸ statement (member (member (parens (tree kind.FnExpr (absent ▸ tree (kind.Function true false) (list End ▸ block End ▸ absent ▸ absent ▸ End) ▸ End))) (codes "prototype")) (codes "map"))
+    ▸ End)
+    (HostCall 7 shown.Undefined (shown.Num (js_number.Whole (pos 1)) ∷ []) ∷ []) (ending.Outside)
+map_of_generators = simp meaning_node refl
+
+-- f(1); (function* () {}).prototype.reduce;
+reduce_of_generators :
+    Does 9 nulls []
+    (statement (call (ident (codes "f")) (whole 1 ▸ End))
+    ▸ statement (member (member (parens (tree kind.FnExpr (absent ▸ tree (kind.Function true false) (list End ▸ block End ▸ absent ▸ absent ▸ End) ▸ End))) (codes "prototype")) (codes "reduce"))
+    ▸ End)
+    (HostCall 7 shown.Undefined (shown.Num (js_number.Whole (pos 1)) ∷ []) ∷ []) (ending.Outside)
+reduce_of_generators = simp meaning_node refl
+
+-- f(1); (function* () {}).prototype.some;
+some_of_generators :
+    Does 9 nulls []
+    (statement (call (ident (codes "f")) (whole 1 ▸ End))
+    ▸ statement (member (member (parens (tree kind.FnExpr (absent ▸ tree (kind.Function true false) (list End ▸ block End ▸ absent ▸ absent ▸ End) ▸ End))) (codes "prototype")) (codes "some"))
+    ▸ End)
+    (HostCall 7 shown.Undefined (shown.Num (js_number.Whole (pos 1)) ∷ []) ∷ []) (ending.Outside)
+some_of_generators = simp meaning_node refl
+
+-- f(1); (function* () {}).prototype.take;
+take_of_generators :
+    Does 9 nulls []
+    (statement (call (ident (codes "f")) (whole 1 ▸ End))
+    ▸ statement (member (member (parens (tree kind.FnExpr (absent ▸ tree (kind.Function true false) (list End ▸ block End ▸ absent ▸ absent ▸ End) ▸ End))) (codes "prototype")) (codes "take"))
+    ▸ End)
+    (HostCall 7 shown.Undefined (shown.Num (js_number.Whole (pos 1)) ∷ []) ∷ []) (ending.Outside)
+take_of_generators = simp meaning_node refl
+
+-- f(1); (function* () {}).prototype.toArray;
+to_array_of_generators :
+    Does 9 nulls []
+    (statement (call (ident (codes "f")) (whole 1 ▸ End))
+    ▸ statement (member (member (parens (tree kind.FnExpr (absent ▸ tree (kind.Function true false) (list End ▸ block End ▸ absent ▸ absent ▸ End) ▸ End))) (codes "prototype")) (codes "toArray"))
+    ▸ End)
+    (HostCall 7 shown.Undefined (shown.Num (js_number.Whole (pos 1)) ∷ []) ∷ []) (ending.Outside)
+to_array_of_generators = simp meaning_node refl
+
+-- f(1); (async function* () {}).bind().prototype;
+prototypes_of_bound_generators :
+    Does 9 nulls []
+    (statement (call (ident (codes "f")) (whole 1 ▸ End))
+    ▸ statement (member (call (member (parens (tree kind.FnExpr (absent ▸ tree (kind.Function true true) (list End ▸ block End ▸ absent ▸ absent ▸ End) ▸ End))) (codes "bind")) End) (codes "prototype"))
+    ▸ End)
+    (HostCall 7 shown.Undefined (shown.Num (js_number.Whole (pos 1)) ∷ []) ∷ []) (ending.Outside)
+prototypes_of_bound_generators = simp meaning_node refl
+
+-- f(1); (function* h() {}).name;
+names_of_generators :
+    Does 9 nulls []
+    (statement (call (ident (codes "f")) (whole 1 ▸ End))
+    ▸ statement (member (parens (tree kind.FnExpr (ident (codes "h") ▸ tree (kind.Function true false) (list End ▸ block End ▸ absent ▸ absent ▸ End) ▸ End))) (codes "name"))
+    ▸ End)
+    (HostCall 7 shown.Undefined (shown.Num (js_number.Whole (pos 1)) ∷ []) ∷ []) (ending.Outside)
+names_of_generators = simp meaning_node refl
+
+-- f(1); (async (a) => a).length;
+lengths_of_async_functions :
+    Does 9 nulls []
+    (statement (call (ident (codes "f")) (whole 1 ▸ End))
+    ▸ statement (member (parens (tree (kind.ArrowExpr true false) (list (binding (codes "a") ▸ End) ▸ ident (codes "a") ▸ absent ▸ absent ▸ End))) (codes "length"))
+    ▸ End)
+    (HostCall 7 shown.Undefined (shown.Num (js_number.Whole (pos 1)) ∷ []) ∷ []) (ending.Outside)
+lengths_of_async_functions = simp meaning_node refl
+
+-- f(1); (function* () {}).prototype.next = f(2);
+writes_over_what_generators_share :
+    Does 9 nulls []
+    (statement (call (ident (codes "f")) (whole 1 ▸ End))
+    ▸ statement (assign (member (member (parens (tree kind.FnExpr (absent ▸ tree (kind.Function true false) (list End ▸ block End ▸ absent ▸ absent ▸ End) ▸ End))) (codes "prototype")) (codes "next")) (call (ident (codes "f")) (whole 2 ▸ End)))
+    ▸ End)
+    (HostCall 7 shown.Undefined (shown.Num (js_number.Whole (pos 1)) ∷ []) ∷ HostCall 7 shown.Undefined (shown.Num (js_number.Whole (pos 2)) ∷ []) ∷ []) (ending.Outside)
+writes_over_what_generators_share = simp meaning_node refl
+
+-- f(1); /a/.constructor;
+constructor_of_regular_expressions :
+    Does 9 nulls []
+    (statement (call (ident (codes "f")) (whole 1 ▸ End))
+    ▸ statement (member (tree (kind.Regex (codes "a") (codes "")) End) (codes "constructor"))
+    ▸ End)
+    (HostCall 7 shown.Undefined (shown.Num (js_number.Whole (pos 1)) ∷ []) ∷ []) (ending.Outside)
+constructor_of_regular_expressions = simp meaning_node refl
+
+-- f(1); /a/.toString;
+to_string_of_regular_expressions :
+    Does 9 nulls []
+    (statement (call (ident (codes "f")) (whole 1 ▸ End))
+    ▸ statement (member (tree (kind.Regex (codes "a") (codes "")) End) (codes "toString"))
+    ▸ End)
+    (HostCall 7 shown.Undefined (shown.Num (js_number.Whole (pos 1)) ∷ []) ∷ []) (ending.Outside)
+to_string_of_regular_expressions = simp meaning_node refl
+
+-- f(1); /a/.exec;
+exec_of_regular_expressions :
+    Does 9 nulls []
+    (statement (call (ident (codes "f")) (whole 1 ▸ End))
+    ▸ statement (member (tree (kind.Regex (codes "a") (codes "")) End) (codes "exec"))
+    ▸ End)
+    (HostCall 7 shown.Undefined (shown.Num (js_number.Whole (pos 1)) ∷ []) ∷ []) (ending.Outside)
+exec_of_regular_expressions = simp meaning_node refl
+
+-- f(1); /a/.test;
+test_of_regular_expressions :
+    Does 9 nulls []
+    (statement (call (ident (codes "f")) (whole 1 ▸ End))
+    ▸ statement (member (tree (kind.Regex (codes "a") (codes "")) End) (codes "test"))
+    ▸ End)
+    (HostCall 7 shown.Undefined (shown.Num (js_number.Whole (pos 1)) ∷ []) ∷ []) (ending.Outside)
+test_of_regular_expressions = simp meaning_node refl
+
+-- f(1); /a/.compile;
+compile_of_regular_expressions :
+    Does 9 nulls []
+    (statement (call (ident (codes "f")) (whole 1 ▸ End))
+    ▸ statement (member (tree (kind.Regex (codes "a") (codes "")) End) (codes "compile"))
+    ▸ End)
+    (HostCall 7 shown.Undefined (shown.Num (js_number.Whole (pos 1)) ∷ []) ∷ []) (ending.Outside)
+compile_of_regular_expressions = simp meaning_node refl
+
+-- f(1); /a/.source;
+source_of_regular_expressions :
+    Does 9 nulls []
+    (statement (call (ident (codes "f")) (whole 1 ▸ End))
+    ▸ statement (member (tree (kind.Regex (codes "a") (codes "")) End) (codes "source"))
+    ▸ End)
+    (HostCall 7 shown.Undefined (shown.Num (js_number.Whole (pos 1)) ∷ []) ∷ []) (ending.Outside)
+source_of_regular_expressions = simp meaning_node refl
+
+-- f(1); /a/.flags;
+flags_of_regular_expressions :
+    Does 9 nulls []
+    (statement (call (ident (codes "f")) (whole 1 ▸ End))
+    ▸ statement (member (tree (kind.Regex (codes "a") (codes "")) End) (codes "flags"))
+    ▸ End)
+    (HostCall 7 shown.Undefined (shown.Num (js_number.Whole (pos 1)) ∷ []) ∷ []) (ending.Outside)
+flags_of_regular_expressions = simp meaning_node refl
+
+-- f(1); /a/.dotAll;
+dot_all_of_regular_expressions :
+    Does 9 nulls []
+    (statement (call (ident (codes "f")) (whole 1 ▸ End))
+    ▸ statement (member (tree (kind.Regex (codes "a") (codes "")) End) (codes "dotAll"))
+    ▸ End)
+    (HostCall 7 shown.Undefined (shown.Num (js_number.Whole (pos 1)) ∷ []) ∷ []) (ending.Outside)
+dot_all_of_regular_expressions = simp meaning_node refl
+
+-- f(1); /a/.global;
+global_of_regular_expressions :
+    Does 9 nulls []
+    (statement (call (ident (codes "f")) (whole 1 ▸ End))
+    ▸ statement (member (tree (kind.Regex (codes "a") (codes "")) End) (codes "global"))
+    ▸ End)
+    (HostCall 7 shown.Undefined (shown.Num (js_number.Whole (pos 1)) ∷ []) ∷ []) (ending.Outside)
+global_of_regular_expressions = simp meaning_node refl
+
+-- f(1); /a/.hasIndices;
+has_indices_of_regular_expressions :
+    Does 9 nulls []
+    (statement (call (ident (codes "f")) (whole 1 ▸ End))
+    ▸ statement (member (tree (kind.Regex (codes "a") (codes "")) End) (codes "hasIndices"))
+    ▸ End)
+    (HostCall 7 shown.Undefined (shown.Num (js_number.Whole (pos 1)) ∷ []) ∷ []) (ending.Outside)
+has_indices_of_regular_expressions = simp meaning_node refl
+
+-- f(1); /a/.ignoreCase;
+ignore_case_of_regular_expressions :
+    Does 9 nulls []
+    (statement (call (ident (codes "f")) (whole 1 ▸ End))
+    ▸ statement (member (tree (kind.Regex (codes "a") (codes "")) End) (codes "ignoreCase"))
+    ▸ End)
+    (HostCall 7 shown.Undefined (shown.Num (js_number.Whole (pos 1)) ∷ []) ∷ []) (ending.Outside)
+ignore_case_of_regular_expressions = simp meaning_node refl
+
+-- f(1); /a/.multiline;
+multiline_of_regular_expressions :
+    Does 9 nulls []
+    (statement (call (ident (codes "f")) (whole 1 ▸ End))
+    ▸ statement (member (tree (kind.Regex (codes "a") (codes "")) End) (codes "multiline"))
+    ▸ End)
+    (HostCall 7 shown.Undefined (shown.Num (js_number.Whole (pos 1)) ∷ []) ∷ []) (ending.Outside)
+multiline_of_regular_expressions = simp meaning_node refl
+
+-- f(1); /a/.sticky;
+sticky_of_regular_expressions :
+    Does 9 nulls []
+    (statement (call (ident (codes "f")) (whole 1 ▸ End))
+    ▸ statement (member (tree (kind.Regex (codes "a") (codes "")) End) (codes "sticky"))
+    ▸ End)
+    (HostCall 7 shown.Undefined (shown.Num (js_number.Whole (pos 1)) ∷ []) ∷ []) (ending.Outside)
+sticky_of_regular_expressions = simp meaning_node refl
+
+-- f(1); /a/.unicode;
+unicode_of_regular_expressions :
+    Does 9 nulls []
+    (statement (call (ident (codes "f")) (whole 1 ▸ End))
+    ▸ statement (member (tree (kind.Regex (codes "a") (codes "")) End) (codes "unicode"))
+    ▸ End)
+    (HostCall 7 shown.Undefined (shown.Num (js_number.Whole (pos 1)) ∷ []) ∷ []) (ending.Outside)
+unicode_of_regular_expressions = simp meaning_node refl
+
+-- f(1); /a/.unicodeSets;
+unicode_sets_of_regular_expressions :
+    Does 9 nulls []
+    (statement (call (ident (codes "f")) (whole 1 ▸ End))
+    ▸ statement (member (tree (kind.Regex (codes "a") (codes "")) End) (codes "unicodeSets"))
+    ▸ End)
+    (HostCall 7 shown.Undefined (shown.Num (js_number.Whole (pos 1)) ∷ []) ∷ []) (ending.Outside)
+unicode_sets_of_regular_expressions = simp meaning_node refl
+
+-- f(1); /a/.test(f(2));
+calls_of_methods_of_regular_expressions :
+    Does 9 nulls []
+    (statement (call (ident (codes "f")) (whole 1 ▸ End))
+    ▸ statement (call (member (tree (kind.Regex (codes "a") (codes "")) End) (codes "test")) (call (ident (codes "f")) (whole 2 ▸ End) ▸ End))
+    ▸ End)
+    (HostCall 7 shown.Undefined (shown.Num (js_number.Whole (pos 1)) ∷ []) ∷ []) (ending.Outside)
+calls_of_methods_of_regular_expressions = simp meaning_node refl
+
+-- f(1); /a/.test = f(2);
+writes_over_what_regular_expressions_share :
+    Does 9 nulls []
+    (statement (call (ident (codes "f")) (whole 1 ▸ End))
+    ▸ statement (assign (member (tree (kind.Regex (codes "a") (codes "")) End) (codes "test")) (call (ident (codes "f")) (whole 2 ▸ End)))
+    ▸ End)
+    (HostCall 7 shown.Undefined (shown.Num (js_number.Whole (pos 1)) ∷ []) ∷ HostCall 7 shown.Undefined (shown.Num (js_number.Whole (pos 2)) ∷ []) ∷ []) (ending.Outside)
+writes_over_what_regular_expressions_share = simp meaning_node refl
 
 -- f(1); (() => 1).bind().name;
 names_of_bound_functions :

@@ -3,30 +3,83 @@ use Rattle.std.proofs.Common.{refl, pos, [], ◌∷◌, Some, None, true, false,
 use Rattle.ecma_number.specs.declared.js_number.JsNumber.TheVariants as js_number
 use Rattle.ecma_kind.specs.declared.kind.Kind.TheVariants as kind
 use Rattle.ecma_kind.specs.declared.operators.MetaPropKind.TheVariants.{NewTarget, ImportMeta}
+use Rattle.ecma_kind.specs.declared.operators.MethodKind.TheVariants as method
 use Rattle.ecma_kind.specs.declared.operators.VarDeclKind.TheVariants.{Let}
 use Rattle.ecma_runs.specs.declared.observation.Event.TheVariants.{HostCall}
 use Rattle.ecma_runs.specs.declared.observation.Ending.TheVariants as ending
 use Rattle.ecma_runs.specs.declared.shown.Shown.TheVariants as shown
-use Rattle.ecma_runs.proofs.Trees.{End, ◌▸◌, tree, absent, list, ident, key, binding, whole, string, super_member, call, new', parens, array, object, property, statement, block, returns, declare_pattern, declare, parameter, declare_function, modifiers, field, declare_class, meaning_node}
+use Rattle.ecma_runs.proofs.Trees.{End, ◌▸◌, tree, absent, list, ident, key, binding, whole, string, member, super_member, call, new', parens, array, object, property, statement, block, returns, declare_pattern, declare, parameter, declare_function, modifiers, field, declare_class, meaning_node}
 use Rattle.ecma_runs.proofs.Scripts.{Does, nulls}
 
--- f(1); async () => 1;
-async_functions :
+-- async function h(a = f(2)) { f(3); } f(1); h();
+calls_of_async_functions :
     Does 9 nulls []
-    (statement (call (ident (codes "f")) (whole 1 ▸ End))
-    ▸ statement (tree (kind.ArrowExpr true false) (list End ▸ whole 1 ▸ absent ▸ absent ▸ End))
+    (tree (kind.FnDecl false) (ident (codes "h") ▸ tree (kind.Function false true) (list (parameter (tree kind.AssignPat (binding (codes "a") ▸ call (ident (codes "f")) (whole 2 ▸ End) ▸ End)) ▸ End) ▸ block (statement (call (ident (codes "f")) (whole 3 ▸ End)) ▸ End) ▸ absent ▸ absent ▸ End) ▸ End)
+    ▸ statement (call (ident (codes "f")) (whole 1 ▸ End))
+    ▸ statement (call (ident (codes "h")) End)
     ▸ End)
     (HostCall 7 shown.Undefined (shown.Num (js_number.Whole (pos 1)) ∷ []) ∷ []) (ending.Outside)
-async_functions = simp meaning_node refl
+calls_of_async_functions = simp meaning_node refl
 
--- f(1); (function* () {});
-generators :
+-- let h = async () => f(2); f(1); h();
+calls_of_async_arrows :
     Does 9 nulls []
-    (statement (call (ident (codes "f")) (whole 1 ▸ End))
-    ▸ statement (parens (tree kind.FnExpr (absent ▸ tree (kind.Function true false) (list End ▸ block End ▸ absent ▸ absent ▸ End) ▸ End)))
+    (declare Let (codes "h") (tree (kind.ArrowExpr true false) (list End ▸ call (ident (codes "f")) (whole 2 ▸ End) ▸ absent ▸ absent ▸ End))
+    ▸ statement (call (ident (codes "f")) (whole 1 ▸ End))
+    ▸ statement (call (ident (codes "h")) End)
     ▸ End)
     (HostCall 7 shown.Undefined (shown.Num (js_number.Whole (pos 1)) ∷ []) ∷ []) (ending.Outside)
-generators = simp meaning_node refl
+calls_of_async_arrows = simp meaning_node refl
+
+-- let o = { async m() { f(2); } }; f(1); o.m();
+calls_of_async_methods :
+    Does 9 nulls []
+    (declare Let (codes "o") (object (tree kind.MethodProp (key (codes "m") ▸ tree (kind.Function false true) (list End ▸ block (statement (call (ident (codes "f")) (whole 2 ▸ End)) ▸ End) ▸ absent ▸ absent ▸ End) ▸ End) ▸ End))
+    ▸ statement (call (ident (codes "f")) (whole 1 ▸ End))
+    ▸ statement (call (member (ident (codes "o")) (codes "m")) End)
+    ▸ End)
+    (HostCall 7 shown.Undefined (shown.Num (js_number.Whole (pos 1)) ∷ []) ∷ []) (ending.Outside)
+calls_of_async_methods = simp meaning_node refl
+
+-- function* h(a = f(2)) { f(3); } f(1); h();
+calls_of_generators :
+    Does 9 nulls []
+    (tree (kind.FnDecl false) (ident (codes "h") ▸ tree (kind.Function true false) (list (parameter (tree kind.AssignPat (binding (codes "a") ▸ call (ident (codes "f")) (whole 2 ▸ End) ▸ End)) ▸ End) ▸ block (statement (call (ident (codes "f")) (whole 3 ▸ End)) ▸ End) ▸ absent ▸ absent ▸ End) ▸ End)
+    ▸ statement (call (ident (codes "f")) (whole 1 ▸ End))
+    ▸ statement (call (ident (codes "h")) End)
+    ▸ End)
+    (HostCall 7 shown.Undefined (shown.Num (js_number.Whole (pos 1)) ∷ []) ∷ []) (ending.Outside)
+calls_of_generators = simp meaning_node refl
+
+-- let h = async function* () { f(2); }; f(1); h();
+calls_of_async_generators :
+    Does 9 nulls []
+    (declare Let (codes "h") (tree kind.FnExpr (absent ▸ tree (kind.Function true true) (list End ▸ block (statement (call (ident (codes "f")) (whole 2 ▸ End)) ▸ End) ▸ absent ▸ absent ▸ End) ▸ End))
+    ▸ statement (call (ident (codes "f")) (whole 1 ▸ End))
+    ▸ statement (call (ident (codes "h")) End)
+    ▸ End)
+    (HostCall 7 shown.Undefined (shown.Num (js_number.Whole (pos 1)) ∷ []) ∷ []) (ending.Outside)
+calls_of_async_generators = simp meaning_node refl
+
+-- class A { static *m() { f(2); } } f(1); A.m();
+calls_of_generator_methods :
+    Does 9 nulls []
+    (declare_class (codes "A") absent (tree (kind.ClassMethod method.Method (modifiers true)) (key (codes "m") ▸ tree (kind.Function true false) (list End ▸ block (statement (call (ident (codes "f")) (whole 2 ▸ End)) ▸ End) ▸ absent ▸ absent ▸ End) ▸ End) ▸ End)
+    ▸ statement (call (ident (codes "f")) (whole 1 ▸ End))
+    ▸ statement (call (member (ident (codes "A")) (codes "m")) End)
+    ▸ End)
+    (HostCall 7 shown.Undefined (shown.Num (js_number.Whole (pos 1)) ∷ []) ∷ []) (ending.Outside)
+calls_of_generator_methods = simp meaning_node refl
+
+-- let h = function* () { f(2); }.bind(); f(1); h();
+calls_of_bound_generators :
+    Does 9 nulls []
+    (declare Let (codes "h") (call (member (tree kind.FnExpr (absent ▸ tree (kind.Function true false) (list End ▸ block (statement (call (ident (codes "f")) (whole 2 ▸ End)) ▸ End) ▸ absent ▸ absent ▸ End) ▸ End)) (codes "bind")) End)
+    ▸ statement (call (ident (codes "f")) (whole 1 ▸ End))
+    ▸ statement (call (ident (codes "h")) End)
+    ▸ End)
+    (HostCall 7 shown.Undefined (shown.Num (js_number.Whole (pos 1)) ∷ []) ∷ []) (ending.Outside)
+calls_of_bound_generators = simp meaning_node refl
 
 -- f(1); await f(2);
 await :
@@ -172,15 +225,6 @@ labels :
     (HostCall 7 shown.Undefined (shown.Num (js_number.Whole (pos 1)) ∷ []) ∷ []) (ending.Outside)
 labels = simp meaning_node refl
 
--- f(1); debugger;
-debugger_statements :
-    Does 9 nulls []
-    (statement (call (ident (codes "f")) (whole 1 ▸ End))
-    ▸ tree kind.DebuggerStmt End
-    ▸ End)
-    (HostCall 7 shown.Undefined (shown.Num (js_number.Whole (pos 1)) ∷ []) ∷ []) (ending.Outside)
-debugger_statements = simp meaning_node refl
-
 -- f(1); return 2;
 returns_of_modules :
     Does 9 nulls []
@@ -189,15 +233,6 @@ returns_of_modules :
     ▸ End)
     (HostCall 7 shown.Undefined (shown.Num (js_number.Whole (pos 1)) ∷ []) ∷ []) (ending.Outside)
 returns_of_modules = simp meaning_node refl
-
--- f(1); export default function* () {}
-default_exports_of_generators :
-    Does 9 nulls []
-    (statement (call (ident (codes "f")) (whole 1 ▸ End))
-    ▸ tree kind.ExportDefaultDecl (tree kind.FnExpr (absent ▸ tree (kind.Function true false) (list End ▸ block End ▸ absent ▸ absent ▸ End) ▸ End) ▸ End)
-    ▸ End)
-    [] (ending.Outside)
-default_exports_of_generators = simp meaning_node refl
 
 -- f(1); $enum.E;
 enums :

@@ -32,6 +32,24 @@ casts_of_objects_to_compare_on_the_right :
     (HostCall 7 shown.Undefined (shown.Num (js_number.Whole (pos 1)) ∷ []) ∷ []) (ending.Outside)
 casts_of_objects_to_compare_on_the_right = simp meaning_node refl
 
+-- f(1); "" + /a/;
+casts_of_regular_expressions :
+    Does 9 nulls []
+    (statement (call (ident (codes "f")) (whole 1 ▸ End))
+    ▸ statement (binary binary.Add (string (codes "")) (tree (kind.Regex (codes "a") (codes "")) End))
+    ▸ End)
+    (HostCall 7 shown.Undefined (shown.Num (js_number.Whole (pos 1)) ∷ []) ∷ []) (ending.Outside)
+casts_of_regular_expressions = simp meaning_node refl
+
+-- f(1); /a/ == "/a/";
+casts_of_regular_expressions_to_compare :
+    Does 9 nulls []
+    (statement (call (ident (codes "f")) (whole 1 ▸ End))
+    ▸ statement (binary binary.EqEq (tree (kind.Regex (codes "a") (codes "")) End) (string (codes "/a/")))
+    ▸ End)
+    (HostCall 7 shown.Undefined (shown.Num (js_number.Whole (pos 1)) ∷ []) ∷ []) (ending.Outside)
+casts_of_regular_expressions_to_compare = simp meaning_node refl
+
 -- try { null.a; } catch (e) { f(1); +e; }
 casts_of_errors :
     Does 9 nulls []
@@ -374,24 +392,6 @@ ill_formed_escapes_before_expressions :
     ▸ End)
     (HostCall 7 shown.Undefined (shown.Num (js_number.Whole (pos 1)) ∷ []) ∷ []) (ending.Outside)
 ill_formed_escapes_before_expressions = simp meaning_node refl
-
--- f(1); ({ async m() {} });
-async_methods :
-    Does 9 nulls []
-    (statement (call (ident (codes "f")) (whole 1 ▸ End))
-    ▸ statement (parens (object (tree kind.MethodProp (key (codes "m") ▸ tree (kind.Function false true) (list End ▸ block End ▸ absent ▸ absent ▸ End) ▸ End) ▸ End)))
-    ▸ End)
-    (HostCall 7 shown.Undefined (shown.Num (js_number.Whole (pos 1)) ∷ []) ∷ []) (ending.Outside)
-async_methods = simp meaning_node refl
-
--- f(1); { function* h() {} }
-generator_declarations :
-    Does 9 nulls []
-    (statement (call (ident (codes "f")) (whole 1 ▸ End))
-    ▸ block (tree (kind.FnDecl false) (ident (codes "h") ▸ tree (kind.Function true false) (list End ▸ block End ▸ absent ▸ absent ▸ End) ▸ End) ▸ End)
-    ▸ End)
-    (HostCall 7 shown.Undefined (shown.Num (js_number.Whole (pos 1)) ∷ []) ∷ []) (ending.Outside)
-generator_declarations = simp meaning_node refl
 
 -- f(1); [f.a] = [f(2)];
 array_patterns_that_are_assigned :

@@ -194,3 +194,14 @@ evaluates_loops_in_order :
     ▸ End)
     (HostCall 7 shown.Undefined (shown.Num (js_number.Whole (pos 1)) ∷ []) ∷ HostCall 7 shown.Undefined (shown.Num (js_number.Whole (pos 2)) ∷ []) ∷ HostCall 7 shown.Undefined (shown.Num (js_number.Whole (pos 4)) ∷ []) ∷ HostCall 7 shown.Undefined (shown.Num (js_number.Whole (pos 3)) ∷ []) ∷ HostCall 7 shown.Undefined (shown.Num (js_number.Whole (pos 2)) ∷ []) ∷ []) (ending.Done [])
 evaluates_loops_in_order = simp meaning_node refl
+
+-- debugger; f(1); if (f(2)) debugger; else debugger; f(3);
+does_nothing_where_a_debugger_may_stop :
+    Does 9 nulls []
+    (tree kind.DebuggerStmt End
+    ▸ statement (call (ident (codes "f")) (whole 1 ▸ End))
+    ▸ tree kind.IfStmt (call (ident (codes "f")) (whole 2 ▸ End) ▸ tree kind.DebuggerStmt End ▸ tree kind.DebuggerStmt End ▸ End)
+    ▸ statement (call (ident (codes "f")) (whole 3 ▸ End))
+    ▸ End)
+    (HostCall 7 shown.Undefined (shown.Num (js_number.Whole (pos 1)) ∷ []) ∷ HostCall 7 shown.Undefined (shown.Num (js_number.Whole (pos 2)) ∷ []) ∷ HostCall 7 shown.Undefined (shown.Num (js_number.Whole (pos 3)) ∷ []) ∷ []) (ending.Done [])
+does_nothing_where_a_debugger_may_stop = simp meaning_node refl

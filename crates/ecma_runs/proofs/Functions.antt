@@ -1,5 +1,6 @@
 -- References, calls, constructions and function objects do alike.
-use Rattle.std.proofs.Common.{◌≡◌, ℕ, ◌++◌, refl, subst, List, [], Option, Some, None, true, cond, bytes_eq, nat_eq, codes}
+use Rattle.std.proofs.Common.{◌≡◌, ℕ, pos, ◌++◌, refl, subst, List, [], ◌∷◌, Option, Some, None, true, cond, bytes_eq, nat_eq, codes}
+use Rattle.ecma_number.specs.declared.js_number.JsNumber.TheVariants.{Whole}
 use Rattle.ecma_tree.specs.declared.node.Node.{Node}
 use Rattle.ecma_runs.specs.declared.observation.Event.TheVariants as event
 use Rattle.ecma_runs.specs.Values.{Value, Undefined, Null, Truth, Number, Text, Own, Host, Error}
@@ -9,7 +10,7 @@ use Rattle.ecma_runs.specs.Host.{show, is_open_object, is_open_callee}
 use Rattle.ecma_runs.specs.Environment.{Reference, ToVariable, ToFree, ToMember, ToSuper, ToImportMeta, ToMetaMember, ToValue, read_variable, write_variable, with_arguments}
 use Rattle.ecma_runs.specs.Meaning.{AsCall, AsConstruct}
 use Rattle.ecma_runs.specs.Objects.{new_object, Calling, Function, BoundFunction}
-use Rattle.ecma_runs.specs.Functions.{made_arguments, arguments_by, read_name, read, write, read_object, read_typed, delete, Borrowing, Apply, Bind, Call, Callee, Called, CalledSuper, Borrowed, borrowing_of, own_callee, member_callee, callee_by, call_host, call_function, call_target, call_calling, call_own, call_value, call_super_calling, call_super_value, first_or_undefined, all_but_first, list_from, bound_to, function_object, bind_function, call_borrowed, call, constructed, construct_function, construct_target, construct_calling, construct_own, construct, own, super_call, new_prototype, new_function, function_entries, prototype_entries, make_function, parent_from, prototype_for}
+use Rattle.ecma_runs.specs.Functions.{made_arguments, arguments_by, read_name, read, write, read_object, read_typed, delete, Borrowing, Apply, Bind, Call, Callee, Called, CalledSuper, Borrowed, borrowing_of, own_callee, member_callee, callee_by, call_host, call_function, call_target, call_calling, call_own, call_value, call_super_calling, call_super_value, first_or_undefined, all_but_first, list_from, bound_to, function_object, bind_function, call_borrowed, call, constructed, construct_function, construct_target, construct_calling, construct_own, construct, own, super_call, new_prototype, new_function, function_entries, prototype_entries, make_function, plain_object, open_entries, iterator_keys, make_generator, regular_expression_keys, new_regular_expression, parent_from, prototype_for}
 use Rattle.ecma_runs.specs.Evaluation.{meaning}
 use Rattle.ecma_runs.proofs.Names.{Unless, unless_three}
 use Rattle.ecma_runs.proofs.Scopes.{Opens}
@@ -251,6 +252,19 @@ module _ (c : Change) where
   make_function_alike w n Arrow home fine keeps = new_function_alike w function_entries None n Arrow home fine keeps
   make_function_alike w n BaseClass home fine keeps = new_function_alike w function_entries None n BaseClass home fine keeps
   make_function_alike w n DerivedClass home fine keeps = new_function_alike w function_entries None n DerivedClass home fine keeps
+
+  plain_object_alike : (entries : List Entry) (parent : Option ℕ) → Alike c (new_object (plain_object entries parent)) (new_object (plain_object entries parent))
+  plain_object_alike entries parent = new_object_alike c (plain_object entries parent) (λ es around. tt)
+
+  pub make_generator_alike : (w : World c) (n : Node) (home : Option ℕ) → c.fine n → MayKeep w n → Alike c (make_generator n home (first c w)) (make_generator (c.node n) home (second c w))
+  make_generator_alike w n home fine keeps =
+      bind_alike c (plain_object_alike (open_entries iterator_keys) None) (λ above. bind_alike c (plain_object_alike [] (Some above)) (λ place.
+      bind_alike c (plain_object_alike (open_entries (codes "prototype" ∷ [])) None) (λ functions. new_function_alike w (prototype_entries true place) (Some functions) n Method home fine keeps)))
+
+  pub new_regular_expression_alike : Alike c new_regular_expression new_regular_expression
+  new_regular_expression_alike =
+      bind_alike c (plain_object_alike (open_entries regular_expression_keys) None) (λ above.
+      plain_object_alike (record { key = codes "lastIndex"; property = Fixed true (Number (Whole (pos 0))) } ∷ []) (Some above))
 
   parent_from_alike : (v : Value) → Alike c (parent_from v) (parent_from v)
   parent_from_alike (Own place) = give_alike c _

@@ -46,7 +46,9 @@ mod FactsOpen
 mod FactsOpenKinds
 mod FactsCompound
 mod FactsFlow
+mod FactsRegularExpressions
 mod FactsScopes
+mod FactsMade
 mod FactsMembers
 mod FactsMethods
 mod FactsErased

@@ -141,6 +141,10 @@ module _ (names : Naming) where
   pub none_stand : {declared : List Id} {scope : List Entered} → Stands declared scope []
   none_stand = record { free = unless_is names.plain (λ id h. absurd (cc)) }
 
+  -- where nothing is looked up, no record is made that may not be
+  pub nothing_opens : (outer : List Id) → Opens [] outer []
+  nothing_opens outer = record { told = λ id h. absurd (cc); left = λ id h away. absurd (cc) }
+
   none_there : (other : Id) (ids : List Id) → ids ≡ [] → is_among other ids ≡ true → ⊥
   none_there other [] is h = cc
   none_there other (id ∷ ids) is h = cc

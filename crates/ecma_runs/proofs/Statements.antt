@@ -126,6 +126,7 @@ module _ (c : Change) {a : List Entered} (w : World (at c a)) where
   completion_alike kind.BreakStmt (label ∷ []) kept h = rw (label.2.is_absent) (when_alike d label.0.meaning.is_absent (break_alike d) (outside_alike d))
   completion_alike kind.ContinueStmt (label ∷ []) kept h = rw (label.2.is_absent) (when_alike d label.0.meaning.is_absent (continue_alike d) (outside_alike d))
   completion_alike kind.TryStmt (body ∷ handler ∷ last ∷ []) kept h = finally_alike d (catching_alike d (body.2.completion w (one c.names _ _ h.0)) (λ v. handler.2.caught v w (two c.names _ _ _ h.0))) (last.2.completion w (three c.names _ _ _ _ h.0))
+  completion_alike kind.DebuggerStmt [] kept h = give_alike d tt
   completion_alike (kind.ImportDecl false) ps kept h = give_alike d tt
   completion_alike kind.ExportDecl (declaration ∷ []) kept h = declaration.2.completion w (one c.names _ _ h.0)
   completion_alike kind.ExportDefaultExpr (e ∷ []) kept h =

@@ -12,14 +12,16 @@ use Rattle.ecma_runs.specs.Environment.{new_environment, set_all, empty, except,
 use Rattle.ecma_runs.specs.Meaning.{inside, Evaluation, Meaning}
 use Rattle.ecma_runs.specs.Objects.{Calling, Function, BoundFunction, calling_at, define, define_data, with_getter, with_setter}
 use Rattle.ecma_runs.specs.Members.{prototype_property}
-use Rattle.ecma_runs.specs.Functions.{read, super_call, first_or_undefined, new_prototype, new_function, prototype_entries, make_function}
+use Rattle.ecma_runs.specs.Functions.{read, super_call, first_or_undefined, new_prototype, new_function, prototype_entries, make_function, make_generator}
 use Rattle.ecma_runs.specs.Expressions.{identifier, value_of}
 
 -- functions
 
--- a function whose object is made; async functions and generators are open
+-- a function whose object is made. Async functions can not be constructed (15.8.2, 15.8.3, 15.4.5 MethodDefinitionEvaluation), nor generators; a call of either is open, since it has no code here
 abbrev pub made_of : Node → Kind → List Meaning → Sort → Option ℕ → Evaluation ℕ
 made_of node (kind.Function false false) children sort home x = make_function node sort home x
+made_of node (kind.Function false true) children sort home x = make_function node Method home x
+made_of node (kind.Function true is_async) children sort home x = make_generator node home x
 made_of node _ children sort home x = outside
 
 -- a function that is exported as the default: its name is one of the module, so that no record is made for it (16.2.3.7 Exports: Evaluation)

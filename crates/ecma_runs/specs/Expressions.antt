@@ -20,7 +20,7 @@ use Rattle.ecma_runs.specs.Meaning.{ExecutionContext, inside, Evaluation, Meanin
 use Rattle.ecma_runs.specs.Operators.{text_from, number_from, key_from, binary_value, operator_of, short_circuit, logical_operator_of, unary_value, updated}
 use Rattle.ecma_runs.specs.Objects.{super_base, new_object, new_array}
 use Rattle.ecma_runs.specs.Members.{has_member, instance_of, type_of}
-use Rattle.ecma_runs.specs.Functions.{read, write, read_object, read_typed, delete, Callee, Called, CalledSuper, Borrowed, callee_by, call, construct, super_call, make_function}
+use Rattle.ecma_runs.specs.Functions.{read, write, read_object, read_typed, delete, Callee, Called, CalledSuper, Borrowed, callee_by, call, construct, super_call, make_function, new_regular_expression}
 
 -- names and members
 
@@ -131,6 +131,8 @@ value_of node (kind.Number number raw) [] x = given number >>= λ n. give (Numbe
 value_of node (kind.Bool truth) [] x = give (Truth truth)
 value_of node kind.Null [] x = give Null
 value_of node kind.ThisExpr [] x = this x.scope
+-- 13.2.7 Regular Expression Literals: a new object each time
+value_of node (kind.Regex pattern' flags) [] x = new_regular_expression >>= λ o. give (Own o)
 -- 13.2.8 Template Literals; ill-formed escapes are open
 value_of node kind.Tpl (expressions ∷ parts ∷ []) x = given parts.cooked >>= λ ps. expressions.texts x >>= λ ts. give (Text (interleaved ps ts))
 -- 13.2.4 Array Initializer, 13.2.5 Object Initializer
@@ -139,7 +141,8 @@ value_of node kind.ObjectLit (properties ∷ []) x =
     new_object (record { entries = []; prototype = None; callable = None; extent = Ordinary }) >>= λ o. properties.defined o o x >>= λ _. give (Own o)
 value_of node kind.FnExpr (name ∷ function ∷ []) x = function_value name.names function x
 value_of node kind.ClassExpr (name ∷ class ∷ []) x = class.class_made name.names x
-value_of node (kind.ArrowExpr false false) children x = make_function node Arrow None x >>= λ f. give (Own f)
+-- 15.3.4, 15.9.4; a call of an async arrow is open
+value_of node (kind.ArrowExpr is_async false) children x = make_function node Arrow None x >>= λ f. give (Own f)
 value_of node (kind.UnaryExpr op) (operand ∷ []) x = unary op operand x
 value_of node (kind.UpdateExpr op prefix) (operand ∷ []) x = update op prefix operand x
 value_of node (kind.BinExpr op) (left ∷ right ∷ []) x = left.value x >>= λ v. binary_rest op (short_circuit op v) v right x

@@ -1,8 +1,9 @@
 -- References, calls, constructions and function objects (ECMAScript, 6.2.5, 10.2 ECMAScript Function Objects, 13.3).
-use Rattle.std.specs.Prelude.{ℕ, List, [], ◌∷◌, ◌++◌, Option, Some, None, Bool, true, cond, nat_eq, bytes_eq, codes}
+use Rattle.std.specs.Prelude.{ℕ, pos, List, [], ◌∷◌, ◌++◌, map, Option, Some, None, Bool, true, cond, nat_eq, bytes_eq, codes}
+use Rattle.ecma_number.specs.declared.js_number.JsNumber.TheVariants.{Whole}
 use Rattle.ecma_tree.specs.declared.node.Node.{Node}
 use Rattle.ecma_runs.specs.declared.observation.Event.TheVariants as event
-use Rattle.ecma_runs.specs.Values.{Value, Undefined, Null, Truth, Own, Host, Error}
+use Rattle.ecma_runs.specs.Values.{Value, Undefined, Null, Truth, Number, Own, Host, Error}
 use Rattle.ecma_runs.specs.State.{Arguments, Unbound, Forbidden, Given, Made, Activation, Sort, Plain, Method, Arrow, BaseClass, DerivedClass, Closure, Callable, Code, Bound, Passed, Property, Fixed, Open, Entry, Ordinary, Object}
 use Rattle.ecma_runs.specs.Run.{Run, ◌>>=◌, give, outside, type_error, when, given, each}
 use Rattle.ecma_runs.specs.Host.{show, use_host, read_free, read_free_typed, is_open_object, is_open_callee}
@@ -254,6 +255,35 @@ prototype_entries writable place = record { key = codes "prototype"; property = 
 abbrev pub make_function : Node → Sort → Option ℕ → ExecutionContext → Run ℕ
 make_function node Plain home x = new_prototype None >>= λ place. new_function (prototype_entries true place) None node Plain home x
 make_function node sort home x = new_function function_entries None node sort home x
+
+-- the keys of what stands above the prototypes of all generators: of these (27.5.1, 27.6.1), and of iterators in later editions
+abbrev pub iterator_keys : List (List ℕ)
+iterator_keys = codes "next" ∷ codes "return" ∷ codes "throw" ∷ codes "drop" ∷ codes "every" ∷ codes "filter" ∷ codes "find" ∷ codes "flatMap" ∷ codes "forEach" ∷ codes "map"
+    ∷ codes "reduce" ∷ codes "some" ∷ codes "take" ∷ codes "toArray" ∷ []
+
+abbrev pub open_entries : List (List ℕ) → List Entry
+open_entries keys = map (λ key. record { key = key; property = Open }) keys
+
+abbrev pub plain_object : List Entry → Option ℕ → Object
+plain_object entries parent = record { entries = entries; prototype = parent; callable = None; extent = Ordinary }
+
+-- a generator can not be constructed, and has a prototype without `constructor`, which can be written (15.5.3, 15.5.4, 15.6.3, 15.6.4 InstantiateGeneratorFunctionObject and others).
+-- What all generators and all their prototypes have above them (27.3.3, 27.4.3), each has for itself here: nobody comes to it but by keys that are open, and bound functions have it too.
+abbrev pub make_generator : Node → Option ℕ → ExecutionContext → Run ℕ
+make_generator node home x =
+    new_object (plain_object (open_entries iterator_keys) None) >>= λ above. new_object (plain_object [] (Some above)) >>= λ place.
+    new_object (plain_object (open_entries (codes "prototype" ∷ [])) None) >>= λ functions. new_function (prototype_entries true place) (Some functions) node Method home x
+
+-- the keys of what stands above all regular expressions (22.2.6 Properties of the RegExp Prototype Object, B.2.4, and what later editions add)
+abbrev pub regular_expression_keys : List (List ℕ)
+regular_expression_keys = codes "exec" ∷ codes "test" ∷ codes "compile" ∷ codes "source" ∷ codes "flags" ∷ codes "dotAll" ∷ codes "global" ∷ codes "hasIndices" ∷ codes "ignoreCase"
+    ∷ codes "multiline" ∷ codes "sticky" ∷ codes "unicode" ∷ codes "unicodeSets" ∷ []
+
+-- a regular expression: an object of which nothing is known but that its `lastIndex` can be set, and is 0 until it is (22.2.3.3 RegExpInitialize)
+abbrev pub new_regular_expression : Run ℕ
+new_regular_expression =
+    new_object (plain_object (open_entries regular_expression_keys) None) >>= λ above.
+    new_object (plain_object (record { key = codes "lastIndex"; property = Fixed true (Number (Whole (pos 0))) } ∷ []) (Some above))
 
 -- the two places of a function expression without a name that is called where it stands, so that nobody holds it
 abbrev pub pass_function : Node → ExecutionContext → Run ℕ

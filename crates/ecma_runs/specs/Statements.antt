@@ -78,6 +78,8 @@ completion_of kind.BreakStmt (label ∷ []) x = when label.is_absent break outsi
 completion_of kind.ContinueStmt (label ∷ []) x = when label.is_absent continue outside
 -- 14.15.3 The try Statement: Evaluation
 completion_of kind.TryStmt (body ∷ handler ∷ last ∷ []) x = finally (catching (body.completion x) (λ v. handler.caught v x)) (last.completion x)
+-- 14.16.1: no debugging facility is there
+completion_of kind.DebuggerStmt [] x = give tt
 -- imports are variables of the module's scope
 completion_of (kind.ImportDecl false) children x = give tt
 -- 16.2.3.7 Exports: Evaluation; what is exported is read by the host
