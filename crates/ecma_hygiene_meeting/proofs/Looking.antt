@@ -183,6 +183,9 @@ module _ (texts : Texts) (free : ℕ) (onto : ℕ → ℕ) (keeps : KeepsFreeApa
         left-known S own names (sought_in statements).sought (λ id. agree refl refl id ∙ ap (λ b. is_among id (cond b all names)) (sym (and-true (is_body r)) ∙ body)) (plain (S ++ own ∷ []) statements below.0)
     looks-of kind.ForStmt (init ∷ test ∷ update ∷ step ∷ []) agree on below leaf m p root body =
         left-known S own (ids_of (meaning init).lexicals) (all_sought (seeker init ∷ seeker test ∷ seeker update ∷ seeker step ∷ [])) (agree refl refl) (for-known init test update step below)
+    looks-of kind.SwitchStmt (discriminant ∷ cases ∷ []) agree on below leaf m p root body =
+        both-known S (sought_in discriminant).sought (outside_of (ids_of (meaning cases).lexicals) (sought_in cases).sought) (plain S discriminant below.0)
+        (left-known S own (ids_of (meaning cases).lexicals) (sought_in cases).sought (agree refl refl) (plain (S ++ own ∷ []) cases below.1.0))
     looks-of kind.CatchClause (parameter ∷ block ∷ []) agree on below leaf m p root body =
         left-known S own (meaning parameter).names ((sought_in parameter).sought ++ (sought_in block).sought) (agree refl refl)
         (both-known (S ++ own ∷ []) (sought_in parameter).sought (sought_in block).sought (plain (S ++ own ∷ []) parameter below.0) (below.1.0.looks refl refl))
@@ -233,7 +236,6 @@ module _ (texts : Texts) (free : ℕ) (onto : ℕ → ℕ) (keeps : KeepsFreeApa
     looks-of (kind.TsTypeAliasDecl declare) cs agree on below leaf m p root body = none-known S
     looks-of (kind.Module shebang) cs agree on below leaf m p root body = all-look (kind.Module shebang) (is_there cs 1) true refl (λ o. agree (ap not root) refl) 0 cs below
     looks-of (kind.Script shebang) cs agree on below leaf m p root body = none-known S
-    looks-of kind.SwitchStmt cs agree on below leaf m p root body = none-known S
     looks-of kind.ForInStmt cs agree on below leaf m p root body = none-known S
     looks-of (kind.ForOfStmt is_await) cs agree on below leaf m p root body = none-known S
     looks-of kind.StaticBlock cs agree on below leaf m p root body = none-known S
@@ -493,6 +495,10 @@ module _ (texts : Texts) (free : ℕ) (onto : ℕ → ℕ) (keeps : KeepsFreeApa
         caught-none (S ++ own ∷ []) (tells-push texts free S own tells (on refl)) (ids_of (meaning init).lexicals) (all_sought (seeker init ∷ seeker test ∷ seeker update ∷ seeker step ∷ []))
         (declared-known S own (ids_of (meaning init).lexicals) (agree refl refl))
         (for-known init test update step below)
+    meets-of kind.SwitchStmt (discriminant ∷ cases ∷ []) raw on below told m =
+        let agree = simple kind.SwitchStmt (discriminant ∷ cases ∷ []) raw (and-false (is_function_body r)) in
+        caught-none (S ++ own ∷ []) (tells-push texts free S own tells (on refl)) (ids_of (meaning cases).lexicals) (sought_in cases).sought
+        (declared-known S own (ids_of (meaning cases).lexicals) (agree refl refl)) (plain (S ++ own ∷ []) cases below.1.0)
     meets-of kind.CatchClause (parameter ∷ block ∷ []) raw on below told m =
         let agree = simple kind.CatchClause (parameter ∷ block ∷ []) raw (and-false (is_function_body r)) in
         let T : List Scope = S ++ own ∷ [] in

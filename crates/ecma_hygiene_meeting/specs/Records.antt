@@ -30,6 +30,7 @@ record_names r (kind.Constructor accessibility is_optional) (key ∷ parameters 
 record_names r kind.SetterProp (key ∷ this_parameter ∷ parameter ∷ body ∷ []) = parameter.names
 record_names r kind.BlockStmt (statements ∷ []) = cond (is_body r) (ids_of (statements.vars ++ statements.lexicals)) (ids_of statements.lexicals)
 record_names r kind.ForStmt (init ∷ test ∷ update ∷ body ∷ []) = ids_of init.lexicals
+record_names r kind.SwitchStmt (discriminant ∷ cases ∷ []) = ids_of cases.lexicals
 record_names r kind.CatchClause (parameter ∷ body ∷ []) = parameter.names
 record_names r kind.TsModuleBlock (items ∷ []) = ids_of (except [] (items.vars ++ items.lexicals))
 record_names r kind.FnExpr (name ∷ function ∷ []) = name.names
@@ -40,7 +41,6 @@ record_names r k children = []
 abbrev pub has_record : Role → Kind → Bool
 has_record r (kind.Module shebang) = not (is_root r)
 has_record r (kind.Script shebang) = false
-has_record r kind.SwitchStmt = false
 has_record r kind.ForInStmt = false
 has_record r (kind.ForOfStmt is_await) = false
 has_record r (kind.TsEnumDecl declare is_const) = false

@@ -176,6 +176,9 @@ lexicals-by (kind.VarDecl Const false) (d ∷ []) c named = constants-by true d 
 lexicals-by (kind.ImportDecl false) (specifiers ∷ source ∷ attributes ∷ []) c named = from-by source.text specifiers (source.declared ++ (attributes.declared ++ [])) c.0
 lexicals-by (kind.FnDecl false) (name ∷ function ∷ []) c named = named-by name.names function.declared
 lexicals-by (kind.ClassDecl false) (name ∷ class ∷ []) c named = named-by name.names class.declared
+lexicals-by kind.SwitchCase (test ∷ statements ∷ []) c named =
+    more-default (ids_of statements.lexicals) statements.declared (test.declared ++ (statements.declared ++ [])) c.1.0.lexicals
+    (sub-behind statements.declared test.declared (statements.declared ++ []) (sub-left statements.declared []))
 lexicals-by kind.ExportDecl (d ∷ []) c named = more-default (ids_of d.lexicals) d.declared (d.declared ++ []) c.0.lexicals (sub-left d.declared [])
 lexicals-by kind.ExportDefaultExpr (e ∷ []) c named = λ id h. either (same_id default_name id) false (or-first (same_id default_name id) (is_among id (e.declared ++ []))) (λ g. no g) h
 lexicals-by kind.ExportDefaultDecl (d ∷ []) c named =

@@ -267,3 +267,35 @@ module _ (id : Id) where
   statements-are w n p h plain =
       let s = shape_out (shape_of count.Many sort.Stmt) n h in
       items-of n (statements-by (is_value_where true n) n (out-Node n).kind (out-Node n).children (where_in w n) s.0 (sound-out (λ w node. is_out_of_role w.role node) w n p).1 s.1 (plain-out n plain).1)
+
+  -- the cases of a `switch`
+
+  case-by : (value : Bool) (n : Node) (k : Kind) (cs : List Node) (around : ℕ → Where) → belongs sort.SwitchCase k ≡ true → Each (λ i c. Placed (around i) c) 0 cs
+      → HaveShapes (child_shapes k (one sort.SwitchCase) (length cs)) cs → AllPlain cs → ItemsOf value n k cs
+  unfolding in_item
+  case-by value n kind.SwitchCase (test ∷ statements ∷ []) around b p h plain =
+      kept-nil id (ids_declared statements item_sought) ∙ statements-are (around 1) statements p.1.0 h.1.0 (plain-head statements [] (plain-tail test (statements ∷ []) plain))
+  case-by value n kind.SwitchCase [] around b p h plain = absurd h
+  case-by value n kind.SwitchCase (c ∷ []) around b p h plain = absurd h.1
+  case-by value n kind.SwitchCase (c ∷ d ∷ e ∷ cs) around b p h plain = absurd h.1.1
+  case-by value n _ cs around b p h plain = absurd (true-false b refl)
+
+  all-cases : (around : ℕ → Where) (i : ℕ) (cs : List Node) → Each (λ j c. Placed (around j) c) i cs → HaveShapes (replicate (length cs) (one sort.SwitchCase)) cs → AllPlain cs → AllItems cs
+  all-cases around i [] p h plain = tt
+  all-cases around i (c ∷ cs) p h plain =
+      let s = shape_out (one sort.SwitchCase) c h.0 in (
+        items-of c (case-by (is_value_where true c) c (out-Node c).kind (out-Node c).children (where_in (around i) c) s.0
+            (sound-out (λ w node. is_out_of_role w.role node) (around i) c p.0).1 s.1 (plain-out c (plain-head c cs plain)).1),
+        all-cases around (suc i) cs p.1 h.1 (plain-tail c cs plain),
+      )
+
+  cases-by : (value : Bool) (n : Node) (k : Kind) (cs : List Node) (around : ℕ → Where) → is_list k ≡ true → Each (λ i c. Placed (around i) c) 0 cs
+      → HaveShapes (child_shapes k (shape_of count.Many sort.SwitchCase) (length cs)) cs → AllPlain cs → ItemsOf value n k cs
+  unfolding in_item
+  cases-by value n kind.List cs around b p h plain = each-item 0 cs (all-cases around 0 cs p h plain)
+  cases-by value n _ cs around b p h plain = absurd (true-false b refl)
+
+  pub cases-are : (w : Where) (n : Node) → Placed w n → HasShape (shape_of count.Many sort.SwitchCase) n → is_plain n ≡ true → ItemsAre n
+  cases-are w n p h plain =
+      let s = shape_out (shape_of count.Many sort.SwitchCase) n h in
+      items-of n (cases-by (is_value_where true n) n (out-Node n).kind (out-Node n).children (where_in w n) s.0 (sound-out (λ w node. is_out_of_role w.role node) w n p).1 s.1 (plain-out n plain).1)

@@ -29,7 +29,7 @@ use Rattle.ecma_runs.specs.State.{Binding, Id}
 use Rattle.ecma_runs.specs.Environment.{ids_of, is_among}
 use Rattle.ecma_runs.specs.Evaluation.{meaning, meaning_by}
 use Rattle.ecma_hygiene_meeting.specs.Records.{has_record, record_names}
-use Rattle.ecma_pipeline_meeting.proofs.Items.{head-are, statements-are}
+use Rattle.ecma_pipeline_meeting.proofs.Items.{cases-are, head-are, statements-are}
 use Rattle.ecma_pipeline_meeting.proofs.Parts.{AllPlain, Sound, among-append, ids-append, kept, kept-append, kept-nil, kept-out, or-none, plain-head, plain-tail}
 use Rattle.ecma_pipeline_meeting.proofs.Patterns.{binds, constructor-parameters, declared-binds, name_sought, named, own-named, parameter-binds, parameters, shape_out}
 use Rattle.ecma_pipeline_meeting.proofs.Variables.{item_sought, var_sought}
@@ -129,6 +129,12 @@ module _ (id : Id) where
   record-by r fr value n kind.ForStmt shape (b₁ ∷ b₂ ∷ []) around roles d m rec on p h plain v = absurd h.1.1
   record-by r fr value n kind.ForStmt shape (b₁ ∷ b₂ ∷ b₃ ∷ []) around roles d m rec on p h plain v = absurd h.1.1.1
   record-by r fr value n kind.ForStmt shape (b₁ ∷ b₂ ∷ b₃ ∷ b₄ ∷ b₅ ∷ cs) around roles d m rec on p h plain v = absurd h.1.1.1.1
+  record-by r fr value n kind.SwitchStmt shape (discriminant ∷ cases ∷ []) around roles d m rec on p h plain v =
+      or-none (kept id (ids_declared cases item_sought ++ [])) ∙ kept-nil id (ids_declared cases item_sought)
+      ∙ cases-are id (around 1) cases p.1.0 h.1.0 (plain-head cases [] (plain-tail discriminant (cases ∷ []) plain))
+  record-by r fr value n kind.SwitchStmt shape [] around roles d m rec on p h plain v = absurd h
+  record-by r fr value n kind.SwitchStmt shape (b₁ ∷ []) around roles d m rec on p h plain v = absurd h.1
+  record-by r fr value n kind.SwitchStmt shape (b₁ ∷ b₂ ∷ b₃ ∷ cs) around roles d m rec on p h plain v = absurd h.1.1
   record-by r fr value n kind.CatchClause shape (parameter ∷ body ∷ []) around roles d m rec on p h plain v =
       or-none (kept id (ids_declared parameter (name_sought form.Catch) ++ [])) ∙ kept-nil id (ids_declared parameter (name_sought form.Catch))
       ∙ named id parameter (around 0) (maybe sort.Pat) form.Catch (declared-binds (around 0) (maybe sort.Pat) parameter p.0 (roles 0)) p.0 h.0 (plain-head parameter (body ∷ []) plain)
@@ -148,7 +154,6 @@ module _ (id : Id) where
   record-by r fr value n kind.ClassExpr shape (b₁ ∷ b₂ ∷ b₃ ∷ cs) around roles d m rec on p h plain v = absurd h.1.1
   record-by r fr value n kind.GetterProp shape cs around roles d m rec on p h plain v = or-none (kept id (ids_in (λ i. None) 0 (map ids_declared cs))) ∙ none-found 0 cs
   record-by r fr value n (kind.ClassDecl declare) shape cs around roles d m rec on p h plain v = or-none (kept id (ids_in (λ i. None) 0 (map ids_declared cs))) ∙ none-found 0 cs
-  record-by r fr value n kind.SwitchStmt shape cs around roles d m rec on p h plain v = absurd (true-false rec refl)
   record-by r fr value n kind.ForInStmt shape cs around roles d m rec on p h plain v = absurd (true-false rec refl)
   record-by r fr value n (kind.ForOfStmt a) shape cs around roles d m rec on p h plain v = absurd (true-false rec refl)
   record-by r fr value n (kind.TsEnumDecl x y) shape cs around roles d m rec on p h plain v = absurd (true-false rec refl)

@@ -162,6 +162,8 @@ module _ (known : Known) where
     effect = same.effect;
     test = same.test;
     caught = same.caught;
+    switched = same.switched;
+    selected = same.selected;
     made = same.made;
     default_made = same.default_made;
     class_made = same.class_made;

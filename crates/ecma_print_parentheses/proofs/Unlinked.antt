@@ -23,7 +23,7 @@ use Rattle.ecma_runs.specs.Classes.{all_code, all_defined, all_fields, all_stati
 use Rattle.ecma_runs.specs.Declarations.{all_names, all_imported, all_lexicals, all_vars, all_parameter_names, all_declared, all_last_declared, all_shorthands, all_cooked, all_plain, all_types, any_constructor, joined_parts, imported_from, all_exports, exported_from}
 use Rattle.ecma_runs.specs.Expressions.{all_arguments, all_elements, all_texts, sequence, unary, binary_rest, logical_rest, compound_rest, assign, call_by}
 use Rattle.ecma_runs.specs.Patterns.{all_targets, all_matched, all_parameters}
-use Rattle.ecma_runs.specs.Statements.{all_completions, all_varied, all_hoisted, all_last, for_rounds}
+use Rattle.ecma_runs.specs.Statements.{all_completions, all_varied, all_hoisted, all_last, all_cases, all_switched, for_rounds}
 
 -- what a node means in all roles but that of a link
 abbrev pub unlinked : Meaning → Meaning
@@ -140,6 +140,13 @@ all_last_unlinked : (ms : List Meaning) → all_last (all_unlinked ms) ≡ all_l
 all_last_unlinked [] = refl
 all_last_unlinked (m ∷ ms) = λ i x. m.last x >>= λ _. all_last_unlinked ms i x
 
+all_cases_unlinked : (ms : List Meaning) (o : Option Value) → all_cases (all_unlinked ms) o ≡ all_cases ms o
+all_cases_unlinked [] o = refl
+all_cases_unlinked (m ∷ ms) o = λ i otherwise x. m.selected o x >>= λ b. when b (all_completions_unlinked (m ∷ ms) i x) (all_cases_unlinked ms o i otherwise x)
+
+all_switched_unlinked : (ms : List Meaning) → all_switched (all_unlinked ms) ≡ all_switched ms
+all_switched_unlinked ms = λ i v x. all_cases_unlinked ms (Some v) i (all_cases_unlinked ms None i (give tt) x) x
+
 sequence_unlinked : (ms : List Meaning) → sequence (all_unlinked ms) ≡ sequence ms
 sequence_unlinked [] = refl
 sequence_unlinked (e ∷ []) = refl
@@ -157,6 +164,7 @@ list_unlinked n ms = λ i. record (meaning_by n kind.List ms) {
   varied = all_varied_unlinked ms i;
   hoisted = all_hoisted_unlinked ms i;
   last = all_last_unlinked ms i;
+  switched = all_switched_unlinked ms i;
   defined = all_defined_unlinked ms i;
   fields = all_fields_unlinked ms i;
   statics = all_statics_unlinked ms i;

@@ -74,6 +74,7 @@ module _ (gone : Id → Bool) (known : Known) where
     varied = λ w. varies _ w;
     hoisted = λ w. hoists _ w;
     last = λ w. give_alike (at c _) tt;
+    selected = λ o w. give_alike (at c _) false;
     defined = λ class object w. give_alike (at c _) [];
     fields = λ keys object w. give_alike (at c _) keys;
     statics = λ keys class w. give_alike (at c _) keys;

@@ -312,6 +312,8 @@ module _ (known : Known) where
           effect = λ w s. bind_alike (at c _) {A = Value} (outside_alike (at c _)) (λ _. give_alike (at c _) tt);
           test = λ w s. outside_alike (at c _);
           caught = λ v w s. outside_alike (at c _);
+          switched = λ v w s. outside_alike (at c _);
+          selected = λ o w s. outside_alike (at c _);
           made = λ sort home w s. outside_alike (at c _);
           default_made = λ w s. outside_alike (at c _);
           class_made = λ ids outer opens w s. outside_alike (at c _);

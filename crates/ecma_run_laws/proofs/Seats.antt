@@ -234,6 +234,8 @@ module _ (swap : Node → Node) (same : (n : Node) → ReadsAlike (meaning n) (m
     seats kind.ReturnStmt (e ∷ []) = ap (λ m. meaning_by n kind.ReturnStmt (m ∷ [])) (read_is e)
     seats kind.ThrowStmt (e ∷ []) = ap (λ m. meaning_by n kind.ThrowStmt (m ∷ [])) (read_is e)
     seats kind.IfStmt (test ∷ yes' ∷ no' ∷ []) = ap (λ m. meaning_by n kind.IfStmt (m ∷ meaning yes' ∷ meaning no' ∷ [])) (read_is test)
+    seats kind.SwitchStmt (discriminant ∷ cases ∷ []) = ap (λ m. meaning_by n kind.SwitchStmt (m ∷ meaning cases ∷ [])) (read_is discriminant)
+    seats kind.SwitchCase (test ∷ statements ∷ []) = ap (λ m. meaning_by n kind.SwitchCase (m ∷ meaning statements ∷ [])) (read_is test)
     seats kind.WhileStmt (test ∷ body ∷ []) = ap (λ m. meaning_by n kind.WhileStmt (m ∷ meaning body ∷ [])) (read_is test)
     seats kind.DoWhileStmt (test ∷ body ∷ []) = ap (λ m. meaning_by n kind.DoWhileStmt (m ∷ meaning body ∷ [])) (read_is test)
     seats kind.ForStmt (init ∷ test ∷ update ∷ body ∷ []) = for_seat init test update body

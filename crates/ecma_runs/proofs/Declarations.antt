@@ -82,6 +82,7 @@ module _ (c : Change) where
   lexicals_same (kind.ImportDecl false) (specifiers ∷ source ∷ attributes ∷ []) kept = imported_from_same source.0.meaning.text source.1.text (source.2.text kept) specifiers
   lexicals_same (kind.FnDecl false) (name ∷ function ∷ []) kept = ap (map (empty false)) name.2.names ∙ empties c false name.0.meaning.names
   lexicals_same (kind.ClassDecl false) (name ∷ class ∷ []) kept = ap (map (empty false)) name.2.names ∙ empties c false name.0.meaning.names
+  lexicals_same kind.SwitchCase (test ∷ statements ∷ []) kept = statements.2.lexicals
   lexicals_same kind.ExportDecl (declaration ∷ []) kept = declaration.2.lexicals
   lexicals_same kind.ExportDefaultExpr (e ∷ []) kept = rw (kept.0, kept.1) refl
   lexicals_same kind.ExportDefaultDecl (declaration ∷ []) kept = ap (map (empty false)) declaration.2.default_names ∙ empties c false declaration.0.meaning.default_names

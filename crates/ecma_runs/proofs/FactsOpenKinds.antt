@@ -207,15 +207,6 @@ loops_over_keys :
     (HostCall 7 shown.Undefined (shown.Num (js_number.Whole (pos 1)) ∷ []) ∷ []) (ending.Outside)
 loops_over_keys = simp meaning_node refl
 
--- f(1); switch (f(2)) { case 1: }
-switches :
-    Does 9 nulls []
-    (statement (call (ident (codes "f")) (whole 1 ▸ End))
-    ▸ tree kind.SwitchStmt (call (ident (codes "f")) (whole 2 ▸ End) ▸ list (tree kind.SwitchCase (whole 1 ▸ list End ▸ End) ▸ End) ▸ End)
-    ▸ End)
-    (HostCall 7 shown.Undefined (shown.Num (js_number.Whole (pos 1)) ∷ []) ∷ []) (ending.Outside)
-switches = simp meaning_node refl
-
 -- f(1); a: f(2);
 labels :
     Does 9 nulls []

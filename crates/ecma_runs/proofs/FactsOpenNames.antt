@@ -270,12 +270,3 @@ names_of_var_in_labelled_statements :
     ▸ End)
     (HostCall 7 shown.Undefined (shown.Undefined ∷ shown.Undefined ∷ shown.Undefined ∷ shown.Undefined ∷ shown.Undefined ∷ []) ∷ []) (ending.Outside)
 names_of_var_in_labelled_statements = simp meaning_node refl
-
--- f(a, b); switch (f(1)) { case 1: var a; default: { var b; } }
-names_of_var_in_switches :
-    Does 9 nulls []
-    (statement (call (ident (codes "f")) (ident (codes "a") ▸ ident (codes "b") ▸ End))
-    ▸ tree kind.SwitchStmt (call (ident (codes "f")) (whole 1 ▸ End) ▸ list (tree kind.SwitchCase (whole 1 ▸ list (declare Var (codes "a") absent ▸ End) ▸ End) ▸ tree kind.SwitchCase (absent ▸ list (block (declare Var (codes "b") absent ▸ End) ▸ End) ▸ End) ▸ End) ▸ End)
-    ▸ End)
-    (HostCall 7 shown.Undefined (shown.Undefined ∷ shown.Undefined ∷ []) ∷ []) (ending.Outside)
-names_of_var_in_switches = simp meaning_node refl

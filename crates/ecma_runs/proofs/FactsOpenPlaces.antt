@@ -50,6 +50,14 @@ casts_of_regular_expressions_to_compare :
     (HostCall 7 shown.Undefined (shown.Num (js_number.Whole (pos 1)) ∷ []) ∷ []) (ending.Outside)
 casts_of_regular_expressions_to_compare = simp meaning_node refl
 
+-- try { null.a; } catch (e) { f(1); switch (e) { case e: f(2); } }
+errors_that_a_switch_compares :
+    Does 9 nulls []
+    (tree kind.TryStmt (block (statement (member null (codes "a")) ▸ End) ▸ tree kind.CatchClause (binding (codes "e") ▸ block (statement (call (ident (codes "f")) (whole 1 ▸ End)) ▸ tree kind.SwitchStmt (ident (codes "e") ▸ list (tree kind.SwitchCase (ident (codes "e") ▸ list (statement (call (ident (codes "f")) (whole 2 ▸ End)) ▸ End) ▸ End) ▸ End) ▸ End) ▸ End) ▸ End) ▸ absent ▸ End)
+    ▸ End)
+    (HostCall 7 shown.Undefined (shown.Num (js_number.Whole (pos 1)) ∷ []) ∷ []) (ending.Outside)
+errors_that_a_switch_compares = simp meaning_node refl
+
 -- try { null.a; } catch (e) { f(1); +e; }
 casts_of_errors :
     Does 9 nulls []

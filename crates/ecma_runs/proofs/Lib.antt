@@ -40,6 +40,7 @@ mod FactsProto
 mod FactsFunctions
 mod FactsClasses
 mod FactsStatements
+mod FactsSwitches
 mod FactsCatch
 mod FactsTypes
 mod FactsOpen

@@ -3,12 +3,12 @@ use Rattle.std.proofs.Common.{◌≡◌, ℕ, ◌++◌, ◌||◌, ◌&&◌, refl
 use Rattle.ecma_runs.specs.Values.{Value}
 use Rattle.ecma_runs.specs.State.{Id, Entered, Binding}
 use Rattle.ecma_runs.specs.Sought.{nothing_sought, Seeker, meanings, all_sought, all_code_sought}
-use Rattle.ecma_runs.specs.Run.{Outcome, Done, Thrown, Returned, Broken, Continued, Ended, then_outcome, Run, ◌>>=◌, give}
+use Rattle.ecma_runs.specs.Run.{Outcome, Done, Thrown, Returned, Broken, Continued, Ended, then_outcome, Run, ◌>>=◌, give, when}
 use Rattle.ecma_runs.specs.Meaning.{Meaning}
 use Rattle.ecma_runs.specs.Expressions.{all_arguments, all_elements, all_texts}
 use Rattle.ecma_runs.specs.Patterns.{all_targets, all_matched, all_parameters}
 use Rattle.ecma_runs.specs.Classes.{all_code, all_defined, all_fields, all_statics}
-use Rattle.ecma_runs.specs.Statements.{all_completions, all_varied, all_hoisted, all_last}
+use Rattle.ecma_runs.specs.Statements.{all_completions, all_varied, all_hoisted, all_last, all_cases, all_switched}
 use Rattle.ecma_runs.specs.Declarations.{all_names, all_imported, all_lexicals, all_vars, all_parameter_names, all_declared, all_last_declared, all_shorthands, all_exports, joined_parts, all_cooked, all_plain, all_types, any_constructor}
 use Rattle.ecma_runs.proofs.Names.{changed_ids, changed_bindings, changed_ids-append, changed_bindings-append}
 use Rattle.ecma_runs.proofs.Scopes.{one, rest}
@@ -30,6 +30,7 @@ module _ (c : Change) where
     pub varied : {a : List Entered} (w : World (at c a)) → Alike (at c a) (m.varied (first (at c a) w)) (give tt)
     pub hoisted : {a : List Entered} (w : World (at c a)) → Alike (at c a) (m.hoisted (first (at c a) w)) (give tt)
     pub last : {a : List Entered} (w : World (at c a)) → Alike (at c a) (m.last (first (at c a) w)) (give tt)
+    pub selected : {a : List Entered} (o : Option Value) (w : World (at c a)) → Alike (at c a) (m.selected o (first (at c a) w)) (give false)
     pub defined : {a : List Entered} (class object : ℕ) (w : World (at c a)) → Alike (at c a) (m.defined class object (first (at c a) w)) (give [])
     pub fields : {a : List Entered} (keys : List (List ℕ)) (object : Value) (w : World (at c a)) → Alike (at c a) (m.fields keys object (first (at c a) w)) (give keys)
     pub statics : {a : List Entered} (keys : List (List ℕ)) (class : Value) (w : World (at c a)) → Alike (at c a) (m.statics keys class (first (at c a) w)) (give keys)
@@ -208,6 +209,18 @@ module _ (c : Change) {a : List Entered} (w : World (at c a)) where
   all_last_alike [] h = give_alike d tt
   all_last_alike (Stays p ∷ items) h = bind_alike d (p.2.last w (one c.names _ _ h)) (λ _. all_last_alike items (rest c.names _ _ h))
   all_last_alike (Goes m silent ∷ items) h = skip d tt (λ _. all_last (behind c items) (second d w)) (silent.last w) (λ _. all_last_alike items h)
+
+  all_cases_alike : (items : List (Item c)) → Standing c w.scope (all_sought (seekers_before c items)) → (o : Option Value) {m m' : Run (Unit {0})} → Alike d m m'
+      → Alike d (all_cases (before c items) o m (first d w)) (all_cases (behind c items) o m' (second d w))
+  all_cases_alike [] h o otherwise = otherwise
+  all_cases_alike (Stays p ∷ items) h o otherwise =
+      bind_alike d (p.2.selected o w (one c.names _ _ h)) (λ b. when_alike d b (all_completions_alike (Stays p ∷ items) h) (all_cases_alike items (rest c.names _ _ h) o otherwise))
+  all_cases_alike (Goes m silent ∷ items) h o {m' = m'} otherwise =
+      skip d false (λ b. when b (all_completions (behind c items) (second d w)) (all_cases (behind c items) o m' (second d w))) (silent.selected o w)
+      (λ b. when_alike d b (all_completions_alike (Goes m silent ∷ items) h) (all_cases_alike items h o otherwise))
+
+  pub all_switched_alike : (items : List (Item c)) → Standing c w.scope (all_sought (seekers_before c items)) → (v : Value) → Alike d (all_switched (before c items) v (first d w)) (all_switched (behind c items) v (second d w))
+  all_switched_alike items h v = all_cases_alike items h (Some v) (all_cases_alike items h None (give_alike d tt))
 
   pub all_matched_alike : (items : List (Item c)) → Standing c w.scope (all_sought (seekers_before c items)) → (v : Value) → Alike d (all_matched (before c items) v (first d w)) (all_matched (behind c items) v (second d w))
   all_matched_alike [] h v = give_alike d tt

@@ -114,6 +114,8 @@ module _ (c : Change) where
     pub effect : {a : List Entered} → EvaluatesAlike a s.sought m.effect m'.effect
     pub test : {a : List Entered} → EvaluatesAlike a s.sought m.test m'.test
     pub caught : {a : List Entered} (v : Value) → EvaluatesAlike a s.sought (m.caught v) (m'.caught v)
+    pub switched : {a : List Entered} (v : Value) → EvaluatesAlike a s.sought (m.switched v) (m'.switched v)
+    pub selected : {a : List Entered} (o : Option Value) → EvaluatesAlike a s.sought (m.selected o) (m'.selected o)
     pub made : {a : List Entered} (sort : Sort) (home : Option ℕ) → EvaluatesAlike a s.sought (m.made sort home) (m'.made sort home)
     -- in the scope that its name is one of
     pub default_made : {a : List Entered} → EvaluatesAlike a (m.default_names ++ s.sought) m.default_made m'.default_made
@@ -179,6 +181,8 @@ module _ (c : Change) where
       effect = λ w z. same.effect w stand;
       test = λ w z. same.test w stand;
       caught = λ v w z. same.caught v w stand;
+      switched = λ v w z. same.switched v w stand;
+      selected = λ o w z. same.selected o w stand;
       made = λ sort home w z. same.made sort home w stand;
       default_made = λ w z. same.default_made w stand;
       class_made = λ names outer opens w z. same.class_made names outer (unless_plain c.names.plain plain (Opens c.names names outer (names ++ s.sought))) w z;

@@ -220,6 +220,7 @@ module _ (to : Id → Id) (m : Node) (may : MayMeet to m) where
   layer_opens (kind.Class is_abstract) ls h = record { told = λ id among. absurd (cc); left = λ id among. absurd (cc) }
   layer_opens kind.BlockStmt (statements ∷ []) h = opens (ids_of statements.meaning.lexicals) statements.seeks.sought h
   layer_opens kind.ForStmt (init ∷ test ∷ update ∷ body ∷ []) h = opens (ids_of init.meaning.lexicals) (init.seeks.sought ++ (test.seeks.sought ++ (update.seeks.sought ++ (body.seeks.sought ++ [])))) h
+  layer_opens kind.SwitchStmt (discriminant ∷ cases ∷ []) h = opens (ids_of cases.meaning.lexicals) cases.seeks.sought h
   layer_opens kind.CatchClause (parameter ∷ body ∷ []) h = opens parameter.meaning.names (parameter.seeks.sought ++ body.seeks.sought) h
   layer_opens kind.TsModuleBlock (items ∷ []) h = opens (ids_of (except [] (items.meaning.vars ++ items.meaning.lexicals))) items.seeks.sought h
   layer_opens kind.FnExpr (name ∷ function ∷ []) h = named_opens to may.stands name.meaning.names function.seeks.sought h

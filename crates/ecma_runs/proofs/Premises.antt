@@ -87,6 +87,7 @@ module _ (c : Change) where
   OpensLayer kind.BlockStmt (statements ∷ []) = Opens c.names (ids_of statements.meaning.lexicals) (sought_of kind.BlockStmt (statements ∷ [])) statements.seeks.sought
   OpensLayer kind.ForStmt (init ∷ test ∷ update ∷ body ∷ []) =
       Opens c.names (ids_of init.meaning.lexicals) (sought_of kind.ForStmt (init ∷ test ∷ update ∷ body ∷ [])) (all_sought (init ∷ test ∷ update ∷ body ∷ []))
+  OpensLayer kind.SwitchStmt (discriminant ∷ cases ∷ []) = Opens c.names (ids_of cases.meaning.lexicals) (outside_of (ids_of cases.meaning.lexicals) cases.seeks.sought) cases.seeks.sought
   OpensLayer kind.CatchClause (parameter ∷ body ∷ []) = Opens c.names parameter.meaning.names (sought_of kind.CatchClause (parameter ∷ body ∷ [])) (parameter.seeks.sought ++ body.seeks.sought)
   OpensLayer kind.TsModuleBlock (items ∷ []) = Opens c.names (ids_of (except [] (items.meaning.vars ++ items.meaning.lexicals))) (sought_of kind.TsModuleBlock (items ∷ [])) items.seeks.sought
   OpensLayer kind.FnExpr (name ∷ function ∷ []) = Opens c.names name.meaning.names (sought_of kind.FnExpr (name ∷ function ∷ [])) (name.meaning.names ++ function.seeks.sought)

@@ -152,6 +152,7 @@ module _ (test : Id → Bool) where
   lexicals_pass (kind.ImportDecl false) (specifiers ∷ source ∷ attributes ∷ []) default = imported_from_pass source.0.text specifiers
   lexicals_pass (kind.FnDecl false) (name ∷ function ∷ []) default = empties_pass false name.0.names name.1.names
   lexicals_pass (kind.ClassDecl false) (name ∷ class ∷ []) default = empties_pass false name.0.names name.1.names
+  lexicals_pass kind.SwitchCase (test ∷ statements ∷ []) default = statements.1.lexicals default
   lexicals_pass kind.ExportDecl (declaration ∷ []) default = declaration.1.lexicals default
   lexicals_pass kind.ExportDefaultExpr (e ∷ []) default = (default, tt)
   lexicals_pass kind.ExportDefaultDecl (declaration ∷ []) default = empties_pass false declaration.0.default_names (declaration.1.default_names default)

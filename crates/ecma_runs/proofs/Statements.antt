@@ -1,5 +1,5 @@
 -- Statements do alike where their parts do.
-use Rattle.std.proofs.Common.{◌≡◌, ℕ, zero, suc, ◌+◌, ◌⊎◌, inl, inr, sym, ap, subst, suc-add, ◌++◌, ◌∙◌, List, [], ◌∷◌, map, None, true, false, codes}
+use Rattle.std.proofs.Common.{◌≡◌, ℕ, zero, suc, ◌+◌, ◌⊎◌, inl, inr, sym, ap, subst, suc-add, ◌++◌, ◌∙◌, List, [], ◌∷◌, map, Option, Some, None, true, false, codes}
 use Rattle.ecma_kind.specs.declared.kind.Kind.{Kind}
 use Rattle.ecma_kind.specs.declared.kind.Kind.TheVariants as kind
 use Rattle.ecma_kind.specs.declared.operators.VarDeclKind.TheVariants.{Var, Let, Const}
@@ -9,19 +9,20 @@ use Rattle.ecma_runs.specs.State.{default_name, Entered, Plain}
 use Rattle.ecma_runs.specs.Meaning.{inside}
 use Rattle.ecma_runs.proofs.Names.{changed_entered, changed_scope}
 use Rattle.ecma_runs.proofs.Exports.{default_ids}
-use Rattle.ecma_runs.specs.Run.{◌>>=◌, give, when, TurnsSpent, Run}
+use Rattle.ecma_runs.specs.Run.{◌>>=◌, give, when, loop, TurnsSpent, Run}
+use Rattle.ecma_runs.specs.Operators.{strictly_equal}
 use Rattle.ecma_runs.specs.Environment.{ToFree, ToMember, copy_environment, empty, initialize}
-use Rattle.ecma_runs.specs.Statements.{rounds, while, do_while, for_rounds, for_loop, block, all_completions, completion_of, effect_of, all_varied, varied_of, all_hoisted, hoisted_of, all_last, last_of, caught_of}
+use Rattle.ecma_runs.specs.Statements.{rounds, while, do_while, for_rounds, for_loop, block, all_completions, completion_of, effect_of, all_varied, varied_of, all_hoisted, hoisted_of, all_last, last_of, caught_of, all_switched, switched_of, is_case_of, selected_of}
 use Rattle.ecma_runs.specs.State.{Id}
 use Rattle.ecma_runs.specs.Environment.{ids_of}
 use Rattle.ecma_runs.specs.Sought.{meanings, all_sought, sought_of}
 use Rattle.ecma_runs.proofs.Names.{Unless}
 use Rattle.ecma_runs.proofs.Scopes.{ids_of-empties, Opens, opened, same_ids_stand, for_parts, one, two, three, rest}
-use Rattle.ecma_runs.proofs.Alike.{Change, Standing, Alike, excused_alike, bind_alike, give_alike, throw_alike, return_alike, break_alike, continue_alike, stop_alike, outside_alike, when_alike, catching_alike, finally_alike, round_alike, loop_alike, spend_alike}
+use Rattle.ecma_runs.proofs.Alike.{Change, Standing, Alike, excused_alike, bind_alike, give_alike, throw_alike, return_alike, break_alike, continue_alike, stop_alike, outside_alike, when_alike, given_alike, catching_alike, finally_alike, round_alike, loop_alike, spend_alike}
 use Rattle.ecma_runs.proofs.Environments.{beside, Knows, enter_alike, copy_alike, initialize_alike}
 use Rattle.ecma_runs.proofs.Meanings.{at, World, first, second, inward, later, newest, within, Both, seekers, firsts, seconds, empties}
 use Rattle.ecma_runs.proofs.Premises.{renamed_kind, KeptLayer, Placed, PlacedNode}
-use Rattle.ecma_runs.proofs.Lists.{all_stay, all_completions_alike, all_varied_alike, all_hoisted_alike, all_last_alike}
+use Rattle.ecma_runs.proofs.Lists.{all_stay, all_completions_alike, all_varied_alike, all_hoisted_alike, all_last_alike, all_switched_alike}
 use Rattle.ecma_runs.proofs.Functions.{read_object_alike, write_alike}
 use Rattle.ecma_runs.proofs.Expressions.{value_alike}
 
@@ -125,6 +126,13 @@ module _ (c : Change) {a : List Entered} (w : World (at c a)) where
   completion_alike kind.ThrowStmt (e ∷ []) kept h = bind_alike d (e.2.value w (one c.names _ _ h.0)) (λ v. throw_alike d v)
   completion_alike kind.BreakStmt (label ∷ []) kept h = rw (label.2.is_absent) (when_alike d label.0.meaning.is_absent (break_alike d) (outside_alike d))
   completion_alike kind.ContinueStmt (label ∷ []) kept h = rw (label.2.is_absent) (when_alike d label.0.meaning.is_absent (continue_alike d) (outside_alike d))
+  completion_alike kind.SwitchStmt (discriminant ∷ cases ∷ []) kept h =
+      rw (cases.2.lexicals)
+      (bind_alike d (discriminant.2.value w (one c.names _ _ h.0)) (λ v.
+      enter_alike d (λ e. cases.1.hoisted (inside (second d w) e) >>= λ _. loop (cases.1.switched v (inside (second d w) e))) cases.0.meaning.lexicals None (λ e is.
+      let z : Standing c (e ∷ w.scope) cases.0.seeks.sought = opened c.names h.1 (rest c.names (discriminant.0.seeks.sought) _ h.0) e is in
+      bind_alike (beside d e) (cases.2.hoisted (within d w e) z) (λ _. loop_alike (beside d e) (cases.2.switched v (within d w e) z)))))
+  completion_alike kind.SwitchCase (test ∷ statements ∷ []) kept h = statements.2.completion w (two c.names _ _ _ h.0)
   completion_alike kind.TryStmt (body ∷ handler ∷ last ∷ []) kept h = finally_alike d (catching_alike d (body.2.completion w (one c.names _ _ h.0)) (λ v. handler.2.caught v w (two c.names _ _ _ h.0))) (last.2.completion w (three c.names _ _ _ _ h.0))
   completion_alike kind.DebuggerStmt [] kept h = give_alike d tt
   completion_alike (kind.ImportDecl false) ps kept h = give_alike d tt
@@ -158,6 +166,7 @@ module _ (c : Change) {a : List Entered} (w : World (at c a)) where
       rw (declaration.2.has_body) (when_alike d declaration.0.meaning.has_body
       (bind_alike d (declaration.2.default_made w s) (λ f. default_alike declaration (one c.names declaration.0.meaning.default_names declaration.0.seeks.sought s) (Own f))) (give_alike d tt))
   hoisted_alike (kind.FnDecl false) (name ∷ function ∷ []) s = rw (name.2.names) (bind_alike d (function.2.made Plain None w (rest c.names (name.0.meaning.names) _ s)) (λ f. initialize_alike d w.scope w.there name.0.meaning.names (one c.names (name.0.meaning.names) _ s) (Own f)))
+  hoisted_alike kind.SwitchCase (test ∷ statements ∷ []) s = statements.2.hoisted w (two c.names _ _ _ s)
   hoisted_alike _ ps s = give_alike d tt
 
   pub last_alike : (k : Kind) (ps : List (Both c)) → KeptLayer c k (firsts c ps) → Standing c w.scope (sought_of k (seekers c ps)) → Alike d (last_of k (firsts c ps) (first d w)) (last_of (renamed_kind c k) (seconds c ps) (second d w))
@@ -174,6 +183,19 @@ module _ (c : Change) {a : List Entered} (w : World (at c a)) where
       let z : Standing c (e ∷ w.scope) (parameter.0.seeks.sought ++ body.0.seeks.sought) = opened c.names h.1 h.0 e (is ∙ ids_of-empties false parameter.0.meaning.names) in
       bind_alike (beside d e) (when_alike (beside d e) parameter.0.meaning.is_absent (give_alike (beside d e) tt) (parameter.2.bound v (within d w e) (one c.names _ _ z))) (λ _. body.2.completion (within d w e) (rest c.names (parameter.0.seeks.sought) _ z))))
   caught_alike _ ps h v = outside_alike d
+
+  pub switched_alike : (k : Kind) (ps : List (Both c)) → Standing c w.scope (sought_of k (seekers c ps)) → (v : Value) → Alike d (switched_of k (firsts c ps) v (first d w)) (switched_of (renamed_kind c k) (seconds c ps) v (second d w))
+  switched_alike kind.List ps s v = all_stay c (λ ls ms'. Standing c w.scope (all_sought ls) → Alike d (all_switched (meanings ls) v (first d w)) (all_switched ms' v (second d w))) (λ items h. all_switched_alike c w items h v) ps s
+  switched_alike _ ps s v = outside_alike d
+
+  is_case_alike : (o : Option Value) {m m' : Run Value} → Alike d m m' → Alike d (is_case_of o m) (is_case_of o m')
+  is_case_alike None h = give_alike d false
+  is_case_alike (Some v) h = bind_alike d h (λ w. given_alike d (strictly_equal v w))
+
+  pub selected_alike : (k : Kind) (ps : List (Both c)) → Standing c w.scope (sought_of k (seekers c ps)) → (o : Option Value) → Alike d (selected_of k (firsts c ps) o (first d w)) (selected_of (renamed_kind c k) (seconds c ps) o (second d w))
+  selected_alike kind.SwitchCase (test ∷ statements ∷ []) s o = rw (test.2.is_absent) (when_alike d test.0.meaning.is_absent (give_alike d _) (is_case_alike o (test.2.value w (one c.names _ _ s))))
+  selected_alike (kind.TsTypeAliasDecl declare) ps s o = give_alike d false
+  selected_alike _ ps s o = outside_alike d
 
   pub effect_alike : (n : Node) → c.fine n → (k : Kind) (ps : List (Both c)) → KeptLayer c k (firsts c ps) → PlacedNode c n w.scope k (seekers c ps) → Alike d (effect_of n k (firsts c ps) (first d w)) (effect_of (c.node n) (renamed_kind c k) (seconds c ps) (second d w))
   effect_alike n fine kind.Absent ps kept h = give_alike d tt

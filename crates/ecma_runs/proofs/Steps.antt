@@ -19,12 +19,12 @@ use Rattle.ecma_runs.proofs.Environments.{KeepTexts, AlikeReference}
 use Rattle.ecma_runs.proofs.Functions.{read_alike}
 use Rattle.ecma_runs.proofs.Meanings.{at, World, first, second, AlikeChain, EvaluatesAlike, SameSeeking, Same, any_seeking, Both, pair, seekers, firsts, seconds}
 use Rattle.ecma_runs.proofs.Premises.{renamed_kind, KeptLayer, OpensLayer, Outlined}
-use Rattle.ecma_runs.proofs.Lists.{Item, seekers_before, before, behind, all_arguments_alike, all_elements_alike, all_texts_alike, all_completions_alike, all_varied_alike, all_hoisted_alike, all_last_alike, all_matched_alike, all_targets_alike, all_parameters_alike, all_fields_alike, all_statics_alike, all_defined_alike, all_code_alike, all_names_same, all_declared_same, all_last_declared_same, all_parameter_names_same, all_lexicals_same, all_vars_same, all_imported_same, all_exports_same, all_cooked_same, all_plain_same, all_types_same, any_constructor_same}
+use Rattle.ecma_runs.proofs.Lists.{Item, seekers_before, before, behind, all_arguments_alike, all_elements_alike, all_texts_alike, all_completions_alike, all_varied_alike, all_hoisted_alike, all_last_alike, all_switched_alike, all_matched_alike, all_targets_alike, all_parameters_alike, all_fields_alike, all_statics_alike, all_defined_alike, all_code_alike, all_names_same, all_declared_same, all_last_declared_same, all_parameter_names_same, all_lexicals_same, all_vars_same, all_imported_same, all_exports_same, all_cooked_same, all_plain_same, all_types_same, any_constructor_same}
 use Rattle.ecma_runs.proofs.Expressions.{link_alike, value_alike, reference_alike, chain_alike, test_alike, initial_alike, arguments_alike, elements_alike, texts_alike, key_alike}
 use Rattle.ecma_runs.proofs.Patterns.{assigned_alike, targets_alike, matched_alike, bound_alike, parameters_alike}
 use Rattle.ecma_runs.proofs.Classes.{made_alike, default_made_alike, body_alike, code_alike, class_made_alike, defined_alike, fields_alike, statics_alike}
 use Rattle.ecma_runs.proofs.Blocks.{completed_alike}
-use Rattle.ecma_runs.proofs.Statements.{varied_alike, hoisted_alike, last_alike, caught_alike, effect_alike}
+use Rattle.ecma_runs.proofs.Statements.{varied_alike, hoisted_alike, last_alike, caught_alike, switched_alike, selected_alike, effect_alike}
 use Rattle.ecma_runs.proofs.Declarations.{names_same, default_names_same, imported_same, text_same, lexicals_same, vars_same, locals_same, parameter_names_same, declared_same, last_declared_same, cooked_same, is_plain_same, is_computed_same, is_super_same, is_absent_same, is_required_same, is_this_same, is_type_same, has_body_same, is_constructor_same, has_no_effect_same, exports_same}
 
 module _ (c : Change) where
@@ -52,6 +52,8 @@ module _ (c : Change) where
     effect = λ w s. effect_alike c w n fine k ps kept ((s, o), l);
     test = λ w s. test_alike c w n fine k ps kept ((s, o), l);
     caught = λ v w s. caught_alike c w k ps (s, o) v;
+    switched = λ v w s. switched_alike c w k ps s v;
+    selected = λ u w s. selected_alike c w k ps s u;
     made = λ sort home w s. made_alike c w n fine k ps ((s, o), l) sort home;
     default_made = λ w s. default_made_alike c w k ps o s;
     class_made = λ ids outer opens w s. class_made_alike c w n fine k ps kept o l ids outer opens s;
@@ -109,6 +111,8 @@ module _ (c : Change) where
     effect = same.effect;
     test = same.test;
     caught = same.caught;
+    switched = same.switched;
+    selected = same.selected;
     made = same.made;
     default_made = same.default_made;
     class_made = same.class_made;
@@ -278,6 +282,8 @@ module _ (c : Change) where
     effect = λ w s. bind_alike (at c _) {A = Value} (outside_alike (at c _)) (λ _. give_alike (at c _) tt);
     test = λ w s. outside_alike (at c _);
     caught = λ v w s. outside_alike (at c _);
+    switched = λ v w s. all_switched_alike c w items s v;
+    selected = λ u w s. outside_alike (at c _);
     made = λ sort home w s. outside_alike (at c _);
     default_made = λ w s. outside_alike (at c _);
     class_made = λ ids outer opens w s. outside_alike (at c _);

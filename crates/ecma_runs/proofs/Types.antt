@@ -74,6 +74,7 @@ alias_silent c n' m texts same = record {
   varied = λ w. same.varied w (none_stand c.names);
   hoisted = λ w. same.hoisted w (none_stand c.names);
   last = λ w. same.last w (none_stand c.names);
+  selected = λ o w. same.selected o w (none_stand c.names);
   defined = λ class object w. same.defined texts class object w (none_stand c.names);
   fields = λ keys object w. same.fields keys object w (none_stand c.names);
   statics = λ keys class w. same.statics keys class w (none_stand c.names);

@@ -81,6 +81,7 @@ lexicals_of (kind.VarDecl Const false) (declarators ∷ []) = map (empty true) d
 lexicals_of (kind.ImportDecl false) (specifiers ∷ source ∷ attributes ∷ []) = imported_from source.text specifiers
 lexicals_of (kind.FnDecl false) (name ∷ function ∷ []) = map (empty false) name.names
 lexicals_of (kind.ClassDecl false) (name ∷ class ∷ []) = map (empty false) name.names
+lexicals_of kind.SwitchCase (test ∷ statements ∷ []) = statements.lexicals
 lexicals_of kind.ExportDecl (declaration ∷ []) = declaration.lexicals
 lexicals_of kind.ExportDefaultExpr (e ∷ []) = empty false default_name ∷ []
 lexicals_of kind.ExportDefaultDecl (declaration ∷ []) = map (empty false) declaration.default_names

@@ -17,7 +17,7 @@ use Rattle.ecma_runs.specs.Functions.{pass_function, prototype_for, read}
 use Rattle.ecma_runs.specs.Expressions.{value_of, reference_of, initial_of, arguments_of, elements_of, texts_of, key_of, chain_of, link_of, test_of}
 use Rattle.ecma_runs.specs.Patterns.{assigned_of, bound_of, matched_of, targets_of, parameters_of}
 use Rattle.ecma_runs.specs.Classes.{made_of, default_made_of, class_made_of, defined_of, fields_of, statics_of, code_of, body_of, field_activation}
-use Rattle.ecma_runs.specs.Statements.{completion_of, varied_of, hoisted_of, last_of, effect_of, caught_of}
+use Rattle.ecma_runs.specs.Statements.{completion_of, varied_of, hoisted_of, last_of, effect_of, caught_of, switched_of, selected_of}
 use Rattle.ecma_runs.specs.Declarations.{names_of, default_names_of, lexicals_of, vars_of, locals_of, parameter_names_of, declared_of, last_declared_of, shorthands_of, imported_of, text_of, cooked_of, is_plain_of, is_computed_of, is_super_of, is_absent_of, is_required_of, is_this_of, is_type_of, has_body_of, is_constructor_of, has_no_effect, exports_of}
 
 -- code runs in a record of its own
@@ -67,6 +67,8 @@ role_by node k children = record {
   effect = effect_of node k children;
   test = test_of node k children;
   caught = caught_of k children;
+  switched = switched_of k children;
+  selected = selected_of k children;
   made = made_of node k children;
   default_made = default_made_of k children;
   class_made = class_made_of node k children;

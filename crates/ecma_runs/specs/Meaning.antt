@@ -81,6 +81,10 @@ pub record Meaning : Type 0 where
   pub test : Evaluation Value
   -- as a handler of what was thrown (14.15.2)
   pub caught : Value → Evaluation (Unit {0})
+  -- as the cases of a `switch` on a value (14.12.2 CaseBlockEvaluation)
+  pub switched : Value → Evaluation (Unit {0})
+  -- as one of them: whether it is the case of the value (14.12.3 CaseClauseIsSelected), or, without a value, the default
+  pub selected : Option Value → Evaluation Bool
   -- as a function whose object is made, with its kind and its home (15.2.4 and others)
   pub made : Sort → Option ℕ → Evaluation ℕ
   -- as a function that is exported as the default: its object is made (16.2.3.7)

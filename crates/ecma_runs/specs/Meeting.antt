@@ -44,6 +44,7 @@ meets_by to (kind.Constructor accessibility is_optional) (key ∷ parameters ∷
 meets_by to (kind.Class is_abstract) children = code_meets to (kind.Class is_abstract) children
 meets_by to kind.BlockStmt (statements ∷ []) = catches_none to (ids_of statements.meaning.lexicals) statements.seeks.sought
 meets_by to kind.ForStmt (init ∷ test ∷ update ∷ body ∷ []) = catches_none to (ids_of init.meaning.lexicals) (all_sought (init ∷ test ∷ update ∷ body ∷ []))
+meets_by to kind.SwitchStmt (discriminant ∷ cases ∷ []) = catches_none to (ids_of cases.meaning.lexicals) cases.seeks.sought
 meets_by to kind.CatchClause (parameter ∷ body ∷ []) = catches_none to parameter.meaning.names (parameter.seeks.sought ++ body.seeks.sought)
 meets_by to kind.TsModuleBlock (items ∷ []) = catches_none to (ids_of (except [] (items.meaning.vars ++ items.meaning.lexicals))) items.seeks.sought
 meets_by to kind.FnExpr (name ∷ function ∷ []) = catches_none to name.meaning.names (name.meaning.names ++ function.seeks.sought)

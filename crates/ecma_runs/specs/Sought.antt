@@ -65,6 +65,7 @@ sought_of (kind.Ident sym ctxt optional) [] = record { sym = sym; ctxt = ctxt } 
 sought_of kind.BindingIdent (id ∷ annotation ∷ []) = id.meaning.names ++ id.seeks.sought
 sought_of kind.BlockStmt (statements ∷ []) = outside_of (ids_of statements.meaning.lexicals) statements.seeks.sought
 sought_of kind.ForStmt (init ∷ test ∷ update ∷ body ∷ []) = outside_of (ids_of init.meaning.lexicals) (all_sought (init ∷ test ∷ update ∷ body ∷ []))
+sought_of kind.SwitchStmt (discriminant ∷ cases ∷ []) = discriminant.seeks.sought ++ outside_of (ids_of cases.meaning.lexicals) cases.seeks.sought
 sought_of kind.CatchClause (parameter ∷ body ∷ []) = outside_of parameter.meaning.names (parameter.seeks.sought ++ body.seeks.sought)
 sought_of kind.TsModuleBlock (items ∷ []) = outside_of (ids_of (except [] (items.meaning.vars ++ items.meaning.lexicals))) items.seeks.sought
 sought_of (kind.FnDecl false) (name ∷ function ∷ []) = name.meaning.names ++ function.seeks.sought
@@ -88,7 +89,6 @@ sought_of (kind.ImportDecl type_only) children = []
 sought_of (kind.TsTypeAliasDecl declare) children = []
 -- what opens a scope of its own and has a clause in no role: no run comes to what it has
 sought_of (kind.Script shebang) children = []
-sought_of kind.SwitchStmt children = []
 sought_of kind.ForInStmt children = []
 sought_of (kind.ForOfStmt is_await) children = []
 sought_of kind.StaticBlock children = []

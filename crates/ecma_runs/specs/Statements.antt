@@ -1,15 +1,16 @@
 -- What statements and declarations do (ECMAScript, 14 Statements and Declarations, 16.2 Modules).
-use Rattle.std.specs.Prelude.{ℕ, zero, suc, List, [], ◌∷◌, map, false, None, codes}
+use Rattle.std.specs.Prelude.{ℕ, zero, suc, List, [], ◌∷◌, map, Bool, false, not, is_some, Option, Some, None, codes}
 use Rattle.ecma_kind.specs.declared.kind.Kind.{Kind}
 use Rattle.ecma_kind.specs.declared.kind.Kind.TheVariants as kind
 use Rattle.ecma_kind.specs.declared.operators.VarDeclKind.TheVariants.{Var, Let, Const}
 use Rattle.ecma_tree.specs.declared.node.Node.{Node}
 use Rattle.ecma_runs.specs.Values.{Value, Own, truth_of}
 use Rattle.ecma_runs.specs.State.{default_name, Entered, Plain}
-use Rattle.ecma_runs.specs.Run.{TurnsSpent, Run, ◌>>=◌, give, throw, return, break, continue, stop, outside, when, catching, finally, round, loop, spend}
+use Rattle.ecma_runs.specs.Run.{TurnsSpent, Run, ◌>>=◌, give, throw, return, break, continue, stop, outside, when, given, catching, finally, round, loop, spend}
 use Rattle.ecma_runs.specs.Environment.{ToFree, ToMember, initialize, empty, new_environment, copy_environment}
 use Rattle.ecma_runs.specs.Meaning.{inside, Evaluation, Meaning}
 use Rattle.ecma_runs.specs.Functions.{read_object, write}
+use Rattle.ecma_runs.specs.Operators.{strictly_equal}
 use Rattle.ecma_runs.specs.Expressions.{value_of}
 
 -- loops: a round spends a turn before its body, so no more rounds than turns are needed
@@ -76,6 +77,10 @@ completion_of kind.ReturnStmt (e ∷ []) x = e.initial x >>= λ v. return v
 completion_of kind.ThrowStmt (e ∷ []) x = e.value x >>= λ v. throw v
 completion_of kind.BreakStmt (label ∷ []) x = when label.is_absent break outside
 completion_of kind.ContinueStmt (label ∷ []) x = when label.is_absent continue outside
+-- 14.12.4 The switch Statement: Evaluation; its cases have one scope, and `break` ends it as it ends a loop (14.1.1)
+completion_of kind.SwitchStmt (discriminant ∷ cases ∷ []) x =
+    discriminant.value x >>= λ v. new_environment cases.lexicals None >>= λ place. cases.hoisted (inside x place) >>= λ _. loop (cases.switched v (inside x place))
+completion_of kind.SwitchCase (test ∷ statements ∷ []) x = statements.completion x
 -- 14.15.3 The try Statement: Evaluation
 completion_of kind.TryStmt (body ∷ handler ∷ last ∷ []) x = finally (catching (body.completion x) (λ v. handler.caught v x)) (last.completion x)
 -- 14.16.1: no debugging facility is there
@@ -133,6 +138,7 @@ hoisted_of kind.ExportDecl (declaration ∷ []) x = declaration.hoisted x
 hoisted_of kind.ExportDefaultDecl (declaration ∷ []) x =
     when declaration.has_body (declaration.default_made x >>= λ f. initialize x.scope declaration.default_names (Own f)) (give tt)
 hoisted_of (kind.FnDecl false) (name ∷ function ∷ []) x = function.made Plain None x >>= λ f. initialize x.scope name.names (Own f)
+hoisted_of kind.SwitchCase (test ∷ statements ∷ []) x = statements.hoisted x
 hoisted_of _ children x = give tt
 
 -- a handler (14.15.2 CatchClauseEvaluation): the name has a record of its own. Without a handler it is thrown on.
@@ -142,3 +148,29 @@ caught_of kind.CatchClause (parameter ∷ body ∷ []) v x =
     new_environment (map (empty false) parameter.names) None >>= λ place.
     when parameter.is_absent (give tt) (parameter.bound v (inside x place)) >>= λ _. body.completion (inside x place)
 caught_of _ children v x = outside
+
+-- `switch`
+
+-- the statements from the first case on that is selected, or else what follows
+abbrev pub all_cases : List Meaning → Option Value → Run (Unit {0}) → Evaluation (Unit {0})
+all_cases [] o otherwise x = otherwise
+all_cases (m ∷ ms) o otherwise x = m.selected o x >>= λ b. when b (all_completions (m ∷ ms) x) (all_cases ms o otherwise x)
+
+-- by the value, or else from the default on
+abbrev pub all_switched : List Meaning → Value → Evaluation (Unit {0})
+all_switched ms v x = all_cases ms (Some v) (all_cases ms None (give tt) x) x
+
+-- 14.12.2 CaseBlockEvaluation
+abbrev pub switched_of : Kind → List Meaning → Value → Evaluation (Unit {0})
+switched_of kind.List items v x = all_switched items v x
+switched_of _ children v x = outside
+
+abbrev pub is_case_of : Option Value → Run Value → Run Bool
+is_case_of None test = give false
+is_case_of (Some v) test = test >>= λ w. given (strictly_equal v w)
+
+-- 14.12.3 CaseClauseIsSelected; the default has no test
+abbrev pub selected_of : Kind → List Meaning → Option Value → Evaluation Bool
+selected_of kind.SwitchCase (test ∷ statements ∷ []) o x = when test.is_absent (give (not (is_some o))) (is_case_of o (test.value x))
+selected_of (kind.TsTypeAliasDecl declare) children o x = give false
+selected_of _ children o x = outside
