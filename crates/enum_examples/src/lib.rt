@@ -2,6 +2,8 @@
 #![tactic(auto)]
 
 #[cfg(test)]
+mod merging;
+#[cfg(test)]
 mod reading;
 #[cfg(test)]
 mod reads;
