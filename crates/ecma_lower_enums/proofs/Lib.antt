@@ -1,7 +1,4 @@
-pub mod Fronted
 pub mod ByForm
-pub mod Singles
-pub mod Several
+pub mod Lists
 pub mod Naming
-pub mod Steps
 pub mod Under

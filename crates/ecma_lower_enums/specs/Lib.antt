@@ -6,3 +6,4 @@ pub mod Writing
 pub mod Steps
 pub mod Names
 pub mod Lowered
+pub mod Writes

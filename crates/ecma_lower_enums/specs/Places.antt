@@ -1,5 +1,5 @@
 -- Where a node stands, as far as enums and reads of their members ask. A child stands where its sort says, but for the children of a few kinds.
-use Rattle.std.specs.Prelude.{ℕ, Bool, true, false, ◌==◌, cond, slice_get}
+use Rattle.std.specs.Prelude.{ℕ, Bool, true, false, ◌&&◌, ◌==◌, not, cond, slice_get}
 use Rattle.std.specs.Option.{option_map_or}
 use Rattle.ecma_kind.specs.Shapes.{field_shapes}
 use Rattle.ecma_kind.specs.Sorts.{is_decl}
@@ -27,10 +27,15 @@ is_several (place.Item at_top exported) = true
 is_several (place.Member skips) = true
 is_several _ = false
 
--- whether a node of this kind is left here as it is: a declaration as the body of a statement, which no module has, and where nothing is done
+abbrev pub is_variables : Kind → Bool
+is_variables (kind.VarDecl word declare) = true
+is_variables _ = false
+
+-- whether a node of this kind is left here as it is: a declaration as the body of a statement, which no module has unless it is a `var`, and where nothing is done
+--   if (a) var b = E.A;   // is written
 abbrev pub is_left : Place → Kind → Bool
 is_left place.Raw k = true
-is_left place.Body k = is_decl k
+is_left place.Body k = is_decl k && not (is_variables k)
 is_left _ k = false
 
 -- ---- by sorts

@@ -5,6 +5,8 @@ use Rattle.ecma_kind.specs.declared.ident.Ident.{Ident}
 use Rattle.ecma_kind.specs.declared.kind.Kind.{Kind}
 use Rattle.ecma_kind.specs.declared.kind.Kind.TheVariants as kind
 use Rattle.ecma_tree.specs.declared.node.Node.{Node, out-Node}
+use Rattle.ecma_rewriter.specs.Seats as rewriter
+use Rattle.ecma_rewriter.specs.Seats.{around_or}
 use Rattle.ecma_lower_enums.specs.declared.known.Around.{Around}
 use Rattle.ecma_lower_enums.specs.declared.known.KnownEnums.{KnownEnums}
 use Rattle.ecma_lower_enums.specs.declared.known.Part.{Part}
@@ -13,9 +15,8 @@ use Rattle.ecma_lower_enums.specs.declared.place.Place.TheVariants as place
 use Rattle.ecma_lower_enums.specs.Known.{Id, id_of, name_at, nowhere, part_at, skips}
 use Rattle.ecma_lower_enums.specs.Places.{at_child, is_item, is_raw, place_in}
 
-pub record Seat : Type 0 where
-  pub place : Place
-  pub around : Around
+abbrev pub Seat : Type 0
+Seat = rewriter.Seat Place Around
 
 -- a tree as a whole
 abbrev pub whole : Seat
@@ -42,10 +43,6 @@ around_in p name (kind.TsModuleDecl declare global) children = Some (named (name
 around_in p name (kind.TsNamespaceDecl declare global) children = Some (named (name_at children))
 around_in p name (kind.TsEnumDecl declare is_const) children = Some (named (name_at children))
 around_in p name _ children = None
-
-abbrev pub around_or : Around → Option Around → Around
-around_or around (Some inside) = inside
-around_or around None = around
 
 abbrev pub around_at : Seat → Kind → List Node → Around
 around_at s k children = around_or s.around (around_in s.place s.around.name k children)

@@ -1,65 +1,69 @@
--- What the steps of writing give: a node over its children, an item of a list.
-use Rattle.std.specs.Prelude.{ℕ, suc, Bool, cond, List, [], ◌∷◌, Option, get_or, set}
+-- What is told of a node as it stood, and what is written of it by that.
+use Rattle.std.specs.Prelude.{ℕ, cond, List, [], ◌∷◌, ◌++◌, map, Option, Some, None, set}
 use Rattle.ecma_kind.specs.declared.kind.Kind.{Kind}
-use Rattle.ecma_kind.specs.declared.kind.Kind.TheVariants as kind
 use Rattle.ecma_kind.specs.declared.span.Span.{Span}
-use Rattle.ecma_tree.specs.Nodes.{absent, node_of}
+use Rattle.ecma_tree.specs.Nodes.{node_of}
 use Rattle.ecma_tree.specs.declared.node.Node.{Node, out-Node}
-use Rattle.ecma_rewriting.specs.Laws.{items}
-use Rattle.ecma_rewriting.specs.Rewriting.{become, becomes}
-use Rattle.ecma_strip.specs.Staying.{stays}
+use Rattle.ecma_enums.specs.Declarations.{member_name}
+use Rattle.ecma_rewriting.specs.Rewriting.{only}
+use Rattle.ecma_lower_enums.specs.declared.form.Form.{Form}
+use Rattle.ecma_lower_enums.specs.declared.form.Form.TheVariants as form
+use Rattle.ecma_lower_enums.specs.declared.form.Told.{Told}
+use Rattle.ecma_lower_enums.specs.declared.form.Told.TheVariants as told
 use Rattle.ecma_lower_enums.specs.declared.known.Around.{Around}
 use Rattle.ecma_lower_enums.specs.declared.known.KnownEnums.{KnownEnums}
 use Rattle.ecma_lower_enums.specs.declared.known.Part.{Part}
 use Rattle.ecma_lower_enums.specs.declared.place.Place.{Place}
-use Rattle.ecma_lower_enums.specs.Known.{Id, part_at}
-use Rattle.ecma_lower_enums.specs.Places.{is_item}
-use Rattle.ecma_lower_enums.specs.Seats.{Seat, around_at, part_ids, place_by}
-use Rattle.ecma_lower_enums.specs.Writing.{answer_by, answered, writing}
+use Rattle.ecma_lower_enums.specs.Forms.{member_in, part_statements}
+use Rattle.ecma_lower_enums.specs.Known.{Id}
+use Rattle.ecma_lower_enums.specs.Places.{is_left}
+use Rattle.ecma_lower_enums.specs.Seats.{Seat, around_in, part_ids, place_by}
+use Rattle.ecma_lower_enums.specs.Writing.{answer_by, answered, first_list, form_of, second, wrapped}
 
-abbrev pub seat : Place → Around → Seat
-seat p around = record { place = p; around = around }
+-- ---- behind an item
 
--- nodes, each by its index
-abbrev pub each_at : (ℕ → Node → Node) → List Node → List Node
-each_at to [] = []
-each_at to (n ∷ ns) = to 0 n ∷ each_at (λ i. to (suc i)) ns
+abbrev pub brought : Node → List Id
+brought n = part_ids (out-Node n).kind (out-Node n).children
 
--- what the child at an index becomes, of a node that is written as this part, with this around its children
-abbrev pub child_becomes : KnownEnums → Place → Option Part → Around → Kind → ℕ → Node → Node
-child_becomes enums p part inside k i = become (writing enums) (seat (place_by enums p k i part) inside)
+abbrev pub around_behind : Around → List Id → Around
+around_behind around ids = record { name = around.name; before = around.before ++ ids }
 
--- what the children become
-abbrev pub children_by : KnownEnums → Place → Option Part → Around → Kind → List Node → List Node
-children_by enums p part inside k children = each_at (child_becomes enums p part inside k) children
+-- ---- what is told of a node
 
-abbrev pub children_over : KnownEnums → Place → Around → Kind → List Node → List Node
-children_over enums p around k children = children_by enums p (part_at p k children) (around_at (seat p around) k children) k children
+abbrev pub told_by : KnownEnums → Place → Span → Kind → List Node → Form → Told
+told_by enums p span k children form.Wrapped = told.Wrapped
+told_by enums p span k children (form.Part part) = told.Part part
+told_by enums p span k children form.Export = told.Export
+told_by enums p span k children (form.Member skips) = told.Member skips (member_name (node_of span k children))
+told_by enums p span k children form.One = told.One (answer_by enums p span k children)
 
--- one node for one
-abbrev pub one_written : KnownEnums → Place → Around → Span → Kind → List Node → Node
-one_written enums p around span k children = answered (answer_by enums p span k children) span k (children_over enums p around k children)
+abbrev pub told_of : KnownEnums → Place → Span → Kind → List Node → Told
+told_of enums p span k children = told_by enums p span k children (form_of p k children)
 
--- a list of what its items become
-abbrev pub list_written : KnownEnums → Place → Around → Span → List Node → Node
-list_written enums p around span children = node_of span kind.List (items (writing enums) (seat p around) children)
+-- nothing is told of a node that is left as it is
+abbrev pub told_at : KnownEnums → Place → Span → Kind → List Node → Option Told
+told_at enums p span k children = cond (is_left p k) None (Some (told_of enums p span k children))
 
--- ---- an item
+-- ---- its children
 
-abbrev pub item_becomes : KnownEnums → Place → Around → Node → List Node
-item_becomes enums p around n = cond (stays n) (becomes (writing enums) (seat p around) n) (n ∷ [])
+abbrev pub part_of : Told → Option Part
+part_of (told.Part part) = Some part
+part_of _ = None
 
-abbrev pub ids_in : Place → Kind → List Node → List Id
-ids_in p k children = cond (is_item p) (part_ids k children) []
+abbrev pub around_below : Seat → Kind → List Node → Option Around
+around_below s k children = around_in s.place s.around.name k children
 
-abbrev pub staying_ids : Place → Node → List Id
-staying_ids p n = cond (stays n) (ids_in p (out-Node n).kind (out-Node n).children) []
+abbrev pub place_below : KnownEnums → Told → Place → Kind → ℕ → Place
+place_below enums t p k i = place_by enums p k i (part_of t)
 
--- in a list where one node stands for one
-abbrev pub item_become : KnownEnums → Place → Around → Node → Node
-item_become enums p around n = cond (stays n) (become (writing enums) (seat p around) n) n
+-- ---- what is written of it
 
--- ---- parts of a node
+abbrev pub written_as : KnownEnums → Told → Seat → Span → Kind → List (List Node) → List Node
+written_as enums told.Wrapped s span k lists = wrapped span k lists
+written_as enums (told.Part part) s span k lists = part_statements enums span part s.around (second lists)
+written_as enums told.Export s span k lists = first_list lists
+written_as enums (told.Member skips name) s span k lists = member_in enums skips s.around.name span name (second lists)
+written_as enums (told.One answer) s span k lists = answered answer span k (map only lists) ∷ []
 
 -- a node with another first child
 abbrev pub with_first : Node → Node → Node

@@ -1,15 +1,15 @@
 //! What stands for names of members and for reads of them.
-ghost use Rattle.std.specs.Prelude.{◌≡◌, IfOk};
-ghost use Rattle.ecma_tree.specs.Sorted.{is_absent};
+ghost use Rattle.std.specs.Prelude.{◌≡◌, IfOk, get_or};
+ghost use Rattle.ecma_tree.specs.Nodes.{absent};
 ghost use Rattle.ecma_tree.specs.declared.node.Node.{out-Node};
 ghost use Rattle.ecma_lower_enums.specs.Writing.{answer_by, answered, bound_answer, bound_name, member_answer, name_answer, pair, pattern_answer, read, short_answer, short_name, target_of, value_read, with_default};
 
 use crate::forms::member;
 use crate::known::{KnownEnums, alias};
-use crate::parts::second_of;
+use crate::parts::is_absent;
 use crate::place::Place;
 use ecma_enums::known_read;
-use ecma_tree::{Expr, Ident, Kind, NoMemory, Node, Pat, Span};
+use ecma_tree::{Expr, Ident, Kind, NoMemory, Node, Nodes, Pat, Span};
 use std::alloc::Global;
 
 /// What stands for a node.
@@ -223,12 +223,6 @@ pub(crate) fn answer_of(
     }
 }
 
-fn is_absent(node: &Node) -> bool
-    ensures { result ≡ is_absent (out-Node node.now).kind }
-{
-    matches!(node.kind, Kind::Absent)
-}
-
 fn with_default(alloc: Global, span: Span, e: Expr, value: Node) -> Result<Pat, NoMemory>
     ensures { IfOk result (λ node. node ≡ with_default span e value) }
 {
@@ -238,18 +232,33 @@ fn with_default(alloc: Global, span: Span, e: Expr, value: Node) -> Result<Pat, 
     Node::of(alloc, span, Kind::AssignPat, [e, value])
 }
 
+fn second_of(alloc: Global, mut children: Nodes) -> Node
+    ensures { result ≡ get_or children 1 absent }
+{
+    if 1 < children.len() {
+        children.replace(1, Node::absent(alloc))
+    } else {
+        Node::absent(alloc)
+    }
+}
+
 /// A node over what its children became, by what stands for it.
-pub(crate) fn answered(alloc: Global, answer: Option<Answer>, node: Node) -> Result<Node, NoMemory>
-    ensures { IfOk result (λ new. new ≡ answered answer
-        (out-Node node).span (out-Node node).kind (out-Node node).children) }
+pub(crate) fn answered(
+    alloc: Global,
+    answer: Option<Answer>,
+    span: Span,
+    kind: Kind,
+    children: Nodes,
+) -> Result<Node, NoMemory>
+    ensures { IfOk result (λ node. node ≡ answered answer span kind children) }
 {
     match answer {
-        None => Ok(node),
+        None => Ok(Node::new(span, kind, children)),
         Some(Answer::Instead(e)) => Ok(e),
         Some(Answer::Pattern(key, e)) => {
-            let value = second_of(alloc, node.children);
-            let pattern = with_default(alloc, node.span, e, value)?;
-            Node::of(alloc, node.span, Kind::KeyValuePatProp, [key, pattern])
+            let value = second_of(alloc, children);
+            let pattern = with_default(alloc, span, e, value)?;
+            Node::of(alloc, span, Kind::KeyValuePatProp, [key, pattern])
         }
     }
 }

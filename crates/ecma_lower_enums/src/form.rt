@@ -1,11 +1,15 @@
 //! How a node is written in its place.
 ghost use Rattle.std.specs.Prelude.{◌≡◌, IfOk};
 ghost use Rattle.ecma_tree.specs.declared.node.Node.{out-Node};
+ghost use Rattle.ecma_lower_enums.specs.Steps.{told_of};
 ghost use Rattle.ecma_lower_enums.specs.Writing.{export_form, form_of, is_enum_first, member_form, part_form};
 
-use crate::known::{Part, part_at};
+use crate::answer::{Answer, answer_of};
+use crate::forms::member_name;
+use crate::known::{KnownEnums, Part, part_at};
 use crate::place::{Place, is_item};
-use ecma_tree::{Kind, NoMemory, Node};
+use ecma_tree::{JsWord, Kind, NoMemory, Node};
+use std::alloc::Global;
 
 /// How a node is written in its place.
 #[derive(Debug, Drop)]
@@ -20,6 +24,21 @@ pub enum Form {
     Member { skips: bool },
     /// One node.
     One,
+}
+
+/// What is told of a node as it stood: how it is written, with what that takes of the node.
+#[derive(Debug, Drop)]
+pub enum Told {
+    /// A type round each node that its expression became.
+    Wrapped,
+    /// A part of an enum.
+    Part(Part),
+    /// What is exported, which is a part of an enum.
+    Export,
+    /// A member of this name.
+    Member { skips: bool, name: JsWord },
+    /// One node, or what stands for it.
+    One(Option<Answer>),
 }
 
 fn part_form(part: Option<Part>) -> Form
@@ -61,7 +80,7 @@ fn member_form(place: Place) -> Form
 
 /// How a node is written in its place.
 #[tactic(auto, unfolding(crate::specs::Writing::form_of))]
-pub(crate) fn form_of(place: Place, node: &Node) -> Result<Form, NoMemory>
+fn form_of(place: Place, node: &Node) -> Result<Form, NoMemory>
     ensures { IfOk result (λ form. form
         ≡ form_of place (out-Node node.now).kind (out-Node node.now).children) }
 {
@@ -76,5 +95,27 @@ pub(crate) fn form_of(place: Place, node: &Node) -> Result<Form, NoMemory>
         Kind::ExportDecl => Ok(export_form(place, node)),
         Kind::TsEnumMember => Ok(member_form(place)),
         _ => Ok(Form::One),
+    }
+}
+
+/// What is told of a node as it stands.
+pub(crate) fn tell(
+    alloc: Global,
+    enums: &KnownEnums,
+    place: Place,
+    node: &Node,
+) -> Result<Told, NoMemory>
+    ensures { IfOk result (λ told. told ≡ told_of enums.now place
+        (out-Node node.now).span (out-Node node.now).kind (out-Node node.now).children) }
+{
+    match form_of(place, node)? {
+        Form::Wrapped => Ok(Told::Wrapped),
+        Form::Part(part) => Ok(Told::Part(part)),
+        Form::Export => Ok(Told::Export),
+        Form::Member { skips } => {
+            let name = member_name(alloc, node)?;
+            Ok(Told::Member { skips, name })
+        }
+        Form::One => Ok(Told::One(answer_of(alloc, enums, place, node)?)),
     }
 }

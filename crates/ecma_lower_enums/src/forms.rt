@@ -3,14 +3,13 @@ ghost use Rattle.std.specs.Prelude.{◌≡◌, ◌∷◌, [], IfOk, None, Some, 
 ghost use Rattle.std.specs.Option.{option_and_then};
 ghost use Rattle.ecma_kind.specs.declared.operators.AssignOp.TheVariants as assign_op;
 ghost use Rattle.ecma_tree.specs.Nodes.{list_node};
-ghost use Rattle.ecma_tree.specs.Sorted.{is_absent};
-ghost use Rattle.ecma_tree.specs.declared.node.Node.{out-Node};
 ghost use Rattle.ecma_enums.specs.Declarations as declaration;
 ghost use Rattle.ecma_enums.specs.Values.{expression, text_literal, undefined};
 ghost use Rattle.ecma_lower_enums.specs.Forms as form;
 ghost use Rattle.ecma_lower_enums.specs.Forms.{as_it_stands, at_text, call, calls, declarations, function_of, is_exported_here, is_known, is_known_text, is_nil, known_value, is_this, member_by, member_of_enum, member_statements, object_by, or_new, parameters, part_statements, set_member, set_other, set_text, value_of, value_or, variable};
 
 use crate::known::{Around, KnownEnums, Part, has_id, skips};
+use crate::parts::is_absent;
 use ecma_enums::{TsEnumRecordValue, known_read};
 use ecma_number::JsNumber;
 use ecma_tree::{
@@ -90,12 +89,6 @@ fn undefined(alloc: Global) -> Result<Expr, NoMemory>
     };
     let zero = Node::leaf(alloc, DUMMY_SP, kind);
     Node::unary_expr(alloc, DUMMY_SP, UnaryOp::Void, zero)
-}
-
-fn is_absent(node: &Node) -> bool
-    ensures { result ≡ is_absent (out-Node node.now).kind }
-{
-    matches!(node.kind, Kind::Absent)
 }
 
 fn as_it_stands(alloc: Global, init: Expr) -> Result<Expr, NoMemory>

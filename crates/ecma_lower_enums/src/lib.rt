@@ -15,7 +15,7 @@ mod place;
 mod writing;
 
 pub use answer::Answer;
-pub use form::Form;
+pub use form::{Form, Told};
 pub use known::{Around, EnumName, KnownEnums, Part};
 pub use pass::{InlineEnum, lower_enums};
 pub use place::Place;

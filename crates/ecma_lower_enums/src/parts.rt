@@ -1,28 +1,19 @@
-//! Parts of nodes, taken out of them or put into them.
-ghost use Rattle.std.specs.Prelude.{◌≡◌, ◌≢◌, [], IfOk, get_or, map};
-ghost use Rattle.ecma_tree.specs.Nodes.{absent};
-ghost use Rattle.ecma_tree.specs.Sorted.{is_list};
+//! Parts of nodes, taken out of what their children became or put into them.
+ghost use Rattle.std.specs.Prelude.{◌≡◌, ◌≢◌, [], IfOk, map};
+ghost use Rattle.ecma_tree.specs.Sorted.{is_absent};
 ghost use Rattle.ecma_tree.specs.declared.node.Node.{out-Node};
 ghost use Rattle.ecma_rewriting.specs.Rewriting.{only};
 ghost use Rattle.ecma_lower_enums.specs.Steps.{with_first};
+ghost use Rattle.ecma_lower_enums.specs.Writing.{first_list, second, wrapped};
 
-use ecma_tree::{Kind, NoMemory, Node, Nodes, copy_node};
+use ecma_tree::{Kind, NoMemory, Node, Nodes, Span, copy_node};
+use item_list::ItemList;
 use std::alloc::Global;
 
-pub(crate) fn is_list(node: &Node) -> bool
-    ensures { result ≡ is_list (out-Node node.now).kind }
+pub(crate) fn is_absent(node: &Node) -> bool
+    ensures { result ≡ is_absent (out-Node node.now).kind }
 {
-    matches!(node.kind, Kind::List)
-}
-
-pub(crate) fn second_of(alloc: Global, mut children: Nodes) -> Node
-    ensures { result ≡ get_or children 1 absent }
-{
-    if 1 < children.len() {
-        children.replace(1, Node::absent(alloc))
-    } else {
-        Node::absent(alloc)
-    }
+    matches!(node.kind, Kind::Absent)
 }
 
 /// The node that one is.
@@ -36,8 +27,43 @@ pub(crate) fn only(alloc: Global, mut nodes: Nodes) -> Node
     }
 }
 
+/// The one that each is.
+pub(crate) fn only_each(alloc: Global, lists: ItemList<Nodes>) -> Result<Nodes, NoMemory>
+    ensures { IfOk result (λ nodes. nodes ≡ map only lists) }
+{
+    let mut ones = Nodes::new(alloc);
+    for nodes in lists.into_vec() {
+        ones.push(only(alloc, nodes))?;
+    }
+    Ok(ones)
+}
+
+/// What the first child became.
+#[tactic(auto, using(crate::proofs::Lists::lists))]
+pub(crate) fn first_list(alloc: Global, mut lists: ItemList<Nodes>) -> Nodes
+    ensures { result ≡ first_list lists }
+{
+    if lists.is_empty() {
+        Nodes::new(alloc)
+    } else {
+        lists.replace(0, Nodes::new(alloc))
+    }
+}
+
+/// The node that the second child became.
+#[tactic(auto, using(crate::proofs::Lists::lists))]
+pub(crate) fn second(alloc: Global, mut lists: ItemList<Nodes>) -> Node
+    ensures { result ≡ second lists }
+{
+    if 1 < lists.len() {
+        only(alloc, lists.replace(1, Nodes::new(alloc)))
+    } else {
+        Node::absent(alloc)
+    }
+}
+
 /// A node once for each of these, which is its first child then.
-pub(crate) fn wrap_each(alloc: Global, node: &Node, nodes: Nodes) -> Result<Nodes, NoMemory>
+fn wrap_each(alloc: Global, node: &Node, nodes: Nodes) -> Result<Nodes, NoMemory>
     requires { (out-Node node.now).children ≢ [] }
     ensures { IfOk result (λ wrapped. wrapped ≡ map (with_first node.now) nodes) }
 {
@@ -48,4 +74,22 @@ pub(crate) fn wrap_each(alloc: Global, node: &Node, nodes: Nodes) -> Result<Node
         wrapped.push(copy)?;
     }
     Ok(wrapped)
+}
+
+/// A node of this kind over what its children became: once for each node that the first became.
+#[tactic(auto, using(crate::proofs::Lists::lists))]
+pub(crate) fn wrapped(
+    alloc: Global,
+    span: Span,
+    kind: Kind,
+    mut lists: ItemList<Nodes>,
+) -> Result<Nodes, NoMemory>
+    ensures { IfOk result (λ nodes. nodes ≡ wrapped span kind lists) }
+{
+    if lists.is_empty() {
+        return Ok(Nodes::from_array(alloc, [Node::leaf(alloc, span, kind)])?);
+    }
+    let nodes = lists.replace(0, Nodes::new(alloc));
+    let node = Node::new(span, kind, only_each(alloc, lists)?);
+    wrap_each(alloc, &node, nodes)
 }

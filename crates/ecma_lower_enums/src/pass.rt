@@ -49,7 +49,7 @@ fn write_with(
 /// Writes the enums of a resolved module, and the values of members in the places of reads of them (docs/ENUMS.md is the table); its free names have the
 /// context of `unresolved`. Where enums are mutable only members of `const` ones stay what they are; under `verbatim_module_syntax` all members of these
 /// are written. `EnumNumber` comes exactly where a number of a member is beyond those that are computed; it tells the first in the text, and the tree is
-/// as it was. No context is drawn. After want of memory the tree may be half done.
+/// as it was. No context is drawn. After want of memory the tree may be gone.
 pub fn lower_enums(
     alloc: Global,
     unresolved: Mark,
@@ -96,7 +96,7 @@ impl InlineEnum {
     }
 
     /// Puts the value of a member in the place of each read of it, where it is known: everywhere but where a member is assigned to, updated, deleted, or the head
-    /// of a loop (docs/ENUMS.md). Enums stay. After want of memory the tree may be half done.
+    /// of a loop (docs/ENUMS.md). Enums stay. After want of memory the tree may be gone.
     pub fn visit_mut_module(&mut self, alloc: Global, tree: &mut Module) -> Result<(), NoMemory>
         ensures tree { OnOk result (tree.new ≡ with_enums_written self.old.enums tree.old) }
         ensures pass { self.new ≡ self.old }

@@ -1,6 +1,6 @@
 //! Where a node stands, as far as enums and reads of their members ask.
 ghost use Rattle.std.specs.Prelude.{◌≡◌};
-ghost use Rattle.ecma_lower_enums.specs.Places.{at_child, child_place, exported_place, inside_place, is_item, is_left, is_raw, is_several, operand_place, pattern_place, place_in, place_of, statements};
+ghost use Rattle.ecma_lower_enums.specs.Places.{at_child, child_place, exported_place, inside_place, is_item, is_left, is_variables, operand_place, pattern_place, place_in, place_of, statements};
 
 use ecma_tree::{Kind, Sort, UnaryOp, belongs, field_shapes};
 
@@ -19,18 +19,12 @@ pub enum Place {
     Property,
     /// What is assigned to, or deleted.
     Target,
-    /// The body of a statement: a declaration here is left as it is.
+    /// The body of a statement: a declaration here is left as it is, unless it is a `var`.
     Body,
     /// All else: a name here is a key, a label or a declared name, and stays.
     Other,
     /// Where nothing is done.
     Raw,
-}
-
-pub(crate) fn is_raw(place: Place) -> bool
-    ensures { result ≡ is_raw place }
-{
-    matches!(place, Place::Raw)
 }
 
 pub(crate) fn is_item(place: Place) -> bool
@@ -39,11 +33,10 @@ pub(crate) fn is_item(place: Place) -> bool
     matches!(place, Place::Item { .. })
 }
 
-/// Whether a node may become several here.
-pub(crate) fn is_several(place: Place) -> bool
-    ensures { result ≡ is_several place }
+fn is_variables(kind: &Kind) -> bool
+    ensures { result ≡ is_variables kind.now }
 {
-    matches!(place, Place::Item { .. } | Place::Member { .. })
+    matches!(kind, Kind::VarDecl { .. })
 }
 
 /// Whether a node of this kind is left here as it is, with all that it holds.
@@ -52,7 +45,7 @@ pub(crate) fn is_left(place: Place, kind: &Kind) -> bool
 {
     match place {
         Place::Raw => true,
-        Place::Body => belongs(Sort::Decl, kind),
+        Place::Body => belongs(Sort::Decl, kind) && !is_variables(kind),
         _ => false,
     }
 }
@@ -107,7 +100,7 @@ fn statements(writes: bool, at_top: bool) -> Place
     }
 }
 
-pub(crate) fn exported_place(place: Place) -> Place
+fn exported_place(place: Place) -> Place
     ensures { result ≡ exported_place place }
 {
     match place {

@@ -64,13 +64,18 @@ fn written(alloc: Global, with: With, text: &str) -> Result<Vec<u8>, EnumError> 
 
 /// Modules, and what is written of them: as TypeScript 4.8 writes them, but for `-0`, for `0 / 0`, `1 / 0` and `-1 / 0`, which it writes as names, and for `const` enums,
 /// of which it writes nothing; it reads members of `const` enums alone.
-const WRITTEN: [(With, &str, &str); 35] = [
+const WRITTEN: [(With, &str, &str); 36] = [
     (
         Nothing,
         "enum E { A, B = 4, C }",
         "var E;\n(function(E) {\n    E[E[\"A\"] = 0] = \"A\";\n    E[E[\"B\"] = 4] = \"B\";\n    E[E[\"C\"] = 5] = \"C\";\n})(E || (E = {}));\n",
     ),
     (Nothing, "const enum E { A = 1 } f(E.A);", "var E;\nf(1);\n"),
+    (
+        Nothing,
+        "const enum E { A = 1 } if (x) var b = E.A;",
+        "var E;\nif (x) var b = 1;\n",
+    ),
     (
         Nothing,
         "enum E { A = -0, B = \"t\", C, D = 1 / A }",
