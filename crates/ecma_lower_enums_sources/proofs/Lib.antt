@@ -1,0 +1,11 @@
+mod Trees
+mod Names
+mod Making
+mod Literals
+mod Kept
+mod Relation
+mod Suiting
+mod Forming
+mod Relating
+mod Sorted
+mod SortsKept

@@ -1,0 +1,43 @@
+-- A module with its enums written, and with reads of their members, whatever is known of these: it is one by its sorts, its texts can be written, and no name is made.
+use Rattle.std.specs.Prelude.{Bool, List}
+use Rattle.ecma_kind.specs.declared.shapes.Sort.TheVariants as sort
+use Rattle.ecma_tree.specs.Sorted.{HasSort}
+use Rattle.ecma_tree.specs.declared.node.Node.{Node}
+use Rattle.ecma_text_leaves.specs.Everywhere.{Everywhere}
+use Rattle.ecma_enums.specs.declared.record.TsEnumRecordEntry.{TsEnumRecordEntry}
+use Rattle.ecma_hygiene_fits.specs.Placed.{NoneMade}
+use Rattle.ecma_hygiene_fits.specs.Spelled.{NoneLong}
+use Rattle.ecma_plain.specs.Plain.{HasUtf8Texts}
+use Rattle.ecma_plain.specs.Writable.{IsWritable}
+use Rattle.ecma_lower_enums.specs.Lowered.{known_enums}
+use Rattle.ecma_lower_enums.specs.Writing.{with_enums_written}
+use Rattle.ecma_lower_enums_sources.specs.Premises.{AreWritten, HasText}
+use Rattle.ecma_lower_enums_sources.specs.Throughout.{Throughout}
+
+-- where these members are known; enums may change or not, and members of `const` enums are kept or not
+abbrev pub written : Bool → Bool → List TsEnumRecordEntry → Node → Node
+written may_change keeps_constants members tree = with_enums_written (known_enums may_change keeps_constants members tree) tree
+
+-- ---- sorts
+
+abbrev pub WrittenEnumsAreSorted : Type 0
+WrittenEnumsAreSorted = (may_change keeps_constants : Bool) (members : List TsEnumRecordEntry) (tree : Node) → HasSort sort.Module tree → HasSort sort.Module (written may_change keeps_constants members tree)
+
+-- ---- names
+
+-- the names that are written are as short as those of the tree
+abbrev pub WritingEnumsKeepsNamesShort : Type 0
+WritingEnumsKeepsNamesShort = (may_change keeps_constants : Bool) (members : List TsEnumRecordEntry) (tree : Node) → NoneLong tree → NoneLong (written may_change keeps_constants members tree)
+
+-- each is that of a declaration, with its place and its context: none is made
+abbrev pub WritingEnumsMakesNoNames : Type 0
+WritingEnumsMakesNoNames = (may_change keeps_constants : Bool) (members : List TsEnumRecordEntry) (tree : Node) → NoneMade tree → NoneMade (written may_change keeps_constants members tree)
+
+-- ---- texts
+
+-- it is no module as it is read, since what is written for a value or for the name of a member is a literal without source text; but one can be written for it
+--   enum E { A }   // E[E["A"] = 0] = "A"
+abbrev pub WrittenEnumsHaveTexts : Type 0
+WrittenEnumsHaveTexts =
+    (may_change keeps_constants : Bool) (members : List TsEnumRecordEntry) (tree : Node) → AreWritten members → Throughout HasText tree
+    → Everywhere (λ k. HasUtf8Texts k × IsWritable k) tree → Everywhere (λ k. HasUtf8Texts k × IsWritable k) (written may_change keeps_constants members tree)

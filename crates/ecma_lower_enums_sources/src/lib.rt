@@ -1,0 +1,26 @@
+//! A module with its enums written, and with reads of their members, is a module as it was.
+//!
+//! Each function carries one law over the definitions, and does nothing. The laws are stated in `specs/Laws.antt`.
+#![tactic(auto)]
+
+ghost use Rattle.ecma_lower_enums_sources.specs.Laws.{WritingEnumsKeepsNamesShort, WritingEnumsMakesNoNames, WrittenEnumsAreSorted, WrittenEnumsHaveTexts};
+
+/// Each node has the sort that its parent asks for, from a module on, where it had.
+pub fn written_enums_are_sorted()
+    ensures { WrittenEnumsAreSorted }
+{}
+
+/// Each literal that is written can be read, and each text is UTF-8, where what is known of members and their names can be written.
+pub fn written_enums_have_texts()
+    ensures { WrittenEnumsHaveTexts }
+{}
+
+/// No identifier that is written has a longer text than one that stood there.
+pub fn writing_enums_keeps_names_short()
+    ensures { WritingEnumsKeepsNamesShort }
+{}
+
+/// Each identifier that is written has the place, the text and the context of one that stood there.
+pub fn writing_enums_makes_no_names()
+    ensures { WritingEnumsMakesNoNames }
+{}
