@@ -1,5 +1,5 @@
 -- How nodes are written in their places.
-use Rattle.std.proofs.Common.{◌≡◌, ◌∙◌, ℕ, Bool, true, false, ◌&&◌, cond, refl, sym, ap, List, [], ◌∷◌, Option, Some, None}
+use Rattle.std.proofs.Common.{◌≡◌, ◌∙◌, Bool, true, false, ◌&&◌, cond, refl, sym, ap, List, Option, Some, None}
 use Rattle.ecma_kind.specs.Sorts.{is_type_wrapper}
 use Rattle.ecma_kind.specs.declared.ident.Ident.{Ident}
 use Rattle.ecma_kind.specs.declared.kind.Kind.{Kind}
@@ -7,10 +7,8 @@ use Rattle.ecma_kind.specs.declared.kind.Kind.TheVariants as kind
 use Rattle.ecma_kind.specs.declared.span.Span.{Span}
 use Rattle.ecma_tree.specs.Sorted.{is_list}
 use Rattle.ecma_tree.specs.declared.node.Node.{Node}
-use Rattle.ecma_lower_enums.specs.declared.answer.Answer.{Answer}
 use Rattle.ecma_lower_enums.specs.declared.form.Form.{Form}
 use Rattle.ecma_lower_enums.specs.declared.form.Form.TheVariants as form
-use Rattle.ecma_lower_enums.specs.declared.known.Around.{Around}
 use Rattle.ecma_lower_enums.specs.declared.known.KnownEnums.{KnownEnums}
 use Rattle.ecma_lower_enums.specs.declared.known.Part.{Part}
 use Rattle.ecma_lower_enums.specs.declared.place.Place.{Place}

@@ -1,5 +1,5 @@
 -- What stands in the lists that the children of a node became.
-use Rattle.std.proofs.Common.{◌≡◌, ◌≢◌, ◌∙◌, ℕ, ◌≤◌, refl, sym, ap, ap₂, List, [], ◌∷◌, length, map, Some, set, slice_get, arith}
+use Rattle.std.proofs.Common.{◌≡◌, ◌≢◌, ◌∙◌, ◌≤◌, refl, sym, ap, ap₂, List, [], ◌∷◌, length, map, Some, set, slice_get, arith}
 use Rattle.ecma_kind.specs.declared.kind.Kind.{Kind}
 use Rattle.ecma_kind.specs.declared.span.Span.{Span}
 use Rattle.ecma_tree.specs.Nodes.{absent, node_of}

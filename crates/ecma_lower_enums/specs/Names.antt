@@ -1,5 +1,5 @@
 -- The names that matter where enums are written: those of members, with the name of their enum, and what the module exports in braces or as its default.
-use Rattle.std.specs.Prelude.{ℕ, Bool, true, ◌||◌, not, cond, List, [], ◌∷◌, ◌++◌, Option, Some, None, slice_get}
+use Rattle.std.specs.Prelude.{ℕ, Bool, true, ◌||◌, not, cond, List, [], ◌∷◌, ◌++◌, Option, Some, slice_get}
 use Rattle.std.specs.Option.{option_map_or}
 use Rattle.ecma_kind.specs.declared.ident.Ident.{Ident}
 use Rattle.ecma_kind.specs.declared.kind.Kind.{Kind}
@@ -10,7 +10,7 @@ use Rattle.ecma_enums.specs.Names as enums
 use Rattle.ecma_walks.specs.Listing.{listed}
 use Rattle.ecma_lower_enums.specs.declared.known.EnumName.{EnumName}
 use Rattle.ecma_lower_enums.specs.declared.known.EnumName.TheVariants as name
-use Rattle.ecma_lower_enums.specs.Known.{Id, id_of, name_at}
+use Rattle.ecma_lower_enums.specs.Known.{id_of, name_at}
 
 -- the items of the list that is the child at an index
 abbrev pub items_at : List Node → ℕ → List Node

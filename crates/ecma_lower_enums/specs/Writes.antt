@@ -1,5 +1,5 @@
 -- Writing is what its steps give.
-use Rattle.std.proofs.Common.{◌≡◌, ◌∙◌, ℕ, Bool, true, false, ◌&&◌, cond, refl, sym, ap, ap₂, List, [], ◌∷◌, map, Option, Some, None}
+use Rattle.std.proofs.Common.{◌≡◌, ◌∙◌, Bool, true, false, ◌&&◌, cond, refl, sym, ap, List, [], ◌∷◌, Option, Some, None}
 use Rattle.ecma_kind.specs.declared.kind.Kind.{Kind}
 use Rattle.ecma_kind.specs.declared.kind.Kind.TheVariants as kind
 use Rattle.ecma_kind.specs.declared.span.Span.{Span}
@@ -7,8 +7,7 @@ use Rattle.ecma_tree.specs.Nodes.{node_of}
 use Rattle.ecma_tree.specs.declared.node.Node.{Node, Node-F, out-Node}
 use Rattle.ecma_tree.specs.declared.node.Node.TheViews.{out-roll-Node}
 use Rattle.ecma_enums.specs.Declarations.{member_name}
-use Rattle.ecma_rewriting.specs.Rewriting.{only}
-use Rattle.ecma_rewriter.specs.Seats.{Leaves, Moves, Seats, StandsStill, Writes, around_or, seat}
+use Rattle.ecma_rewriter.specs.Seats.{Leaves, Moves, Seats, StandsStill, Writes, seat}
 use Rattle.ecma_lower_enums.specs.declared.form.Form.{Form}
 use Rattle.ecma_lower_enums.specs.declared.form.Form.TheVariants as form
 use Rattle.ecma_lower_enums.specs.declared.form.Told.{Told}
