@@ -4,7 +4,8 @@ use Rattle.ecma_runs.specs.Values.{Value}
 use Rattle.ecma_runs.specs.State.{State}
 use Rattle.ecma_runs.specs.Run.{Done, Run}
 use Rattle.ecma_run_places.specs.Worlds.{World, States}
-use Rattle.ecma_run_places.specs.Laws.{PlacesDoNotMatter, CallsMindNoPlaces, HostsSeeNoPlaces, WhatIsMadeBesidesIsFree, NamesMayBeReadForNothing}
+use Rattle.ecma_run_places.specs.Laws.{PlacesDoNotMatter, CallsMindNoPlaces, HostsSeeNoPlaces, WhatIsMadeBesidesIsFree, NamesMayBeReadForNothing, WhatOnlyMakesMayGo}
+use Rattle.ecma_run_places.proofs.Making.{only_makes_drops}
 use Rattle.ecma_run_places.proofs.Dropping.{besides, Drops, Dropped, dropped_done, read_variable_drops, free_drops, typed_drops}
 use Rattle.ecma_run_places.proofs.Actions.{act_alike, body_alike}
 use Rattle.ecma_runs.specs.Evaluation.{calls, invoke}
@@ -35,3 +36,6 @@ names_may_be_read_for_nothing = record {
   free = λ c name s s' t v st is. behind (free_drops c name) s s' t v st is;
   under_typeof = λ c name s s' t v st is. behind (typed_drops c name) s s' t v st is;
 }
+
+pub what_only_makes_may_go : WhatOnlyMakesMayGo
+what_only_makes_may_go e w c s s' t v is st done = behind (only_makes_drops e is c) s s' t v st done

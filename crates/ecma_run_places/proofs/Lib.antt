@@ -16,4 +16,6 @@ pub mod Classes
 pub mod Nodes
 pub mod Actions
 pub mod Dropping
+pub mod Idle
+pub mod Making
 pub mod Laws

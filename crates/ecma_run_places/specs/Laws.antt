@@ -1,5 +1,5 @@
 -- Places do not matter.
-use Rattle.std.specs.Prelude.{◌≡◌, ◌++◌, ℕ, List}
+use Rattle.std.specs.Prelude.{◌≡◌, ◌++◌, ℕ, List, IsTrue}
 use Rattle.ecma_tree.specs.declared.node.Node.{Node}
 use Rattle.ecma_runs.specs.Values.{Value}
 use Rattle.ecma_runs.specs.State.{Id, Environment, Object, State}
@@ -13,6 +13,7 @@ use Rattle.ecma_runs.specs.Exports.{Exported}
 use Rattle.ecma_runs.specs.Observation.{act, run_body}
 use Rattle.ecma_runs.specs.declared.script.Action.{Action}
 use Rattle.ecma_run_places.specs.Worlds.{World, Same, States}
+use Rattle.ecma_run_places.specs.Making.{only_makes}
 use Rattle.ecma_run_places.specs.Alike.{Alike, FunctionsAlike, Contexts, first, second, MeansAlike}
 
 -- the same node, in two contexts that are the same but for places, comes out alike from states that are the same but for places, in each role
@@ -42,3 +43,8 @@ pub record NamesMayBeReadForNothing : Type 0 where
   pub variable : {w : World} (c : Contexts w) (place : ℕ) (id : Id) (s s' t : State) (v : Value) → States w s s' → read (first c) (ToVariable place id) s ≡ Done v t → States w t s'
   pub free : {w : World} (c : Contexts w) (name : List ℕ) (s s' t : State) (v : Value) → States w s s' → read (first c) (ToFree name) s ≡ Done v t → States w t s'
   pub under_typeof : {w : World} (c : Contexts w) (name : List ℕ) (s s' t : State) (v : Value) → States w s s' → read_typed (first c) (ToFree name) s ≡ Done v t → States w t s'
+
+-- so it is where an expression gives a value that only reads names and makes what nobody else has: it may be dropped, and what follows does the same
+abbrev pub WhatOnlyMakesMayGo : Type 0
+WhatOnlyMakesMayGo =
+    (e : Node) (w : World) (c : Contexts w) (s s' t : State) (v : Value) → IsTrue (only_makes e) → States w s s' → (meaning e).value (first c) s ≡ Done v t → States w t s'

@@ -1,3 +1,4 @@
 pub mod Worlds
 pub mod Alike
+pub mod Making
 pub mod Laws

@@ -3,7 +3,7 @@
 //! Each function carries one law, and does nothing. The laws are stated in `specs/Laws.antt`.
 #![tactic(auto)]
 
-ghost use Rattle.ecma_run_places.specs.Laws.{CallsMindNoPlaces, HostsSeeNoPlaces, NamesMayBeReadForNothing, PlacesDoNotMatter, WhatIsMadeBesidesIsFree};
+ghost use Rattle.ecma_run_places.specs.Laws.{CallsMindNoPlaces, HostsSeeNoPlaces, NamesMayBeReadForNothing, PlacesDoNotMatter, WhatIsMadeBesidesIsFree, WhatOnlyMakesMayGo};
 
 /// The same node, in contexts and from states that are the same but for places, comes out alike in each role: with the same events, answers and turns, with
 /// values that are the same but for places, and in states that are so, too.
@@ -30,4 +30,10 @@ pub fn what_is_made_besides_is_free()
 /// makes the object.
 pub fn names_may_be_read_for_nothing()
     ensures { NamesMayBeReadForNothing }
+{}
+
+/// So an expression may be dropped that only reads names and makes what nobody else has, where it gives a value: one of names, literals, functions, arrays, `this` and operators on
+/// these, as `[[], function () {}]` and `typeof arguments`. All that follows does the same.
+pub fn what_only_makes_may_go()
+    ensures { WhatOnlyMakesMayGo }
 {}
