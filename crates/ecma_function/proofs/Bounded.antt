@@ -6,11 +6,11 @@ use Rattle.ecma_kind.specs.declared.kind.Kind.{Kind}
 use Rattle.ecma_tree.specs.declared.node.Node.{Node, Node-F, ind-Node, out-Node, roll-Node}
 use Rattle.ecma_tree.specs.declared.node.Node.TheViews.{out-roll-Node}
 use Rattle.ecma_tree.proofs.Layers.{from_leaves_out}
+use Rattle.ecma_function_parts.specs.Drawing.{count}
 use Rattle.ecma_function.specs.declared.injecting.Role.TheVariants as role
 use Rattle.ecma_function.specs.declared.place.Place.{Place}
 use Rattle.ecma_function.specs.declared.place.Place.TheVariants as place
 use Rattle.ecma_function.specs.Calls.{is_super_call, is_super_stmt}
-use Rattle.ecma_function.specs.Drawing.{count}
 use Rattle.ecma_function.specs.Injecting.{Outcome, in_order, is_named, role_of, writing}
 use Rattle.ecma_function.specs.Laws.{AtMostOneContextACall, super_calls}
 use Rattle.ecma_function.specs.Places.{is_outside, place_in}

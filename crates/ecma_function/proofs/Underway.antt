@@ -8,13 +8,13 @@ use Rattle.ecma_tree.specs.Nodes.{node_of}
 use Rattle.ecma_tree.specs.declared.node.Node.{Node, out-Node}
 use Rattle.ecma_tree.proofs.Items.{drop-item}
 use Rattle.ecma_tree.proofs.Layers.{from_leaves_out}
+use Rattle.ecma_function_parts.specs.Drawing.{context_if, count}
+use Rattle.ecma_function_parts.proofs.Given.{Counting, counting-given, counting-left, counting-next, counting-spent, counting-start, counting-stops, given-more}
 use Rattle.ecma_function.specs.declared.injecting.Role.{Role}
 use Rattle.ecma_function.specs.declared.injecting.Written.{Written}
 use Rattle.ecma_function.specs.declared.place.Place.{Place}
-use Rattle.ecma_function.specs.Drawing.{context_if, count}
 use Rattle.ecma_function.specs.Injecting.{Outcome, Writing, as_it_is, behind, entered, finished, in_order, is_named, joined, nothing, role_of, writing, writing_step, written_as}
 use Rattle.ecma_function.specs.Places.{is_outside, place_in}
-use Rattle.ecma_function.proofs.Given.{Counting, counting-given, counting-left, counting-next, counting-spent, counting-start, counting-stops, given-more}
 
 -- ---- one behind the other
 

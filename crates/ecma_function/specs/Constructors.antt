@@ -3,11 +3,12 @@ use Rattle.std.specs.Prelude.{ℕ, List, [], ◌∷◌, map, if◌then◌else◌
 use Rattle.std.specs.List.{insert_slice}
 use Rattle.ecma_kind.specs.declared.kind.Kind.{Kind}
 use Rattle.ecma_kind.specs.declared.kind.Kind.TheVariants as kind
-use Rattle.ecma_tree.specs.Nodes.{absent, list_node, node_of}
+use Rattle.ecma_tree.specs.Nodes.{node_of}
 use Rattle.ecma_tree.specs.Sorted.{is_absent}
 use Rattle.ecma_tree.specs.declared.node.Node.{Node, out-Node}
 use Rattle.ecma_utils.specs.Directives.{front_length, is_text_stmt}
 use Rattle.ecma_utils.specs.Expressions.{block_of, expr_stmt_of}
+use Rattle.ecma_function_parts.specs.Written.{first_or_absent}
 use Rattle.ecma_function.specs.declared.place.Place.TheVariants as place
 use Rattle.ecma_function.specs.Injecting.{Outcome, writing}
 
@@ -28,10 +29,6 @@ abbrev pub block_behind_texts : List Node → Node → Node
 block_behind_texts more block = node_of (out-Node block).span (out-Node block).kind (block_children more (out-Node block).children)
 
 -- ---- a body
-
-abbrev pub first_or_absent : List Node → Node
-first_or_absent [] = absent
-first_or_absent (n ∷ ns) = n
 
 abbrev pub body_by : List Node → Outcome → Node
 body_by exprs o =

@@ -10,10 +10,10 @@ use Rattle.ecma_tree.specs.Nodes.{absent, dummy_span, list_node, node_of}
 use Rattle.ecma_tree.specs.declared.node.Node.{Node, out-Node}
 use Rattle.ecma_utils.specs.Expressions.{assign_of, expr_stmt_of}
 use Rattle.ecma_utils.specs.Quotes.{name_of}
+use Rattle.ecma_function_parts.specs.Drawing.{context_if, count}
 use Rattle.ecma_function.specs.declared.injecting.Written.{Written}
 use Rattle.ecma_function.specs.declared.place.Place.{Place}
 use Rattle.ecma_function.specs.declared.place.Place.TheVariants as place
-use Rattle.ecma_function.specs.Drawing.{context_if, count}
 use Rattle.ecma_function.specs.Calls.{is_super_call, is_super_stmt}
 use Rattle.ecma_function.specs.declared.injecting.Role.{Role}
 use Rattle.ecma_function.specs.declared.injecting.Role.TheVariants as role

@@ -3,9 +3,9 @@ use Rattle.std.specs.Prelude.{ℕ, ◌+◌, ◌≤◌, List, map}
 use Rattle.std.specs.List.{sum}
 use Rattle.ecma_tree.specs.Layers.{from_leaves}
 use Rattle.ecma_tree.specs.declared.node.Node.{Node}
+use Rattle.ecma_function_parts.specs.Drawing.{count}
 use Rattle.ecma_function.specs.declared.place.Place.{Place}
 use Rattle.ecma_function.specs.Calls.{is_super_call}
-use Rattle.ecma_function.specs.Drawing.{count}
 use Rattle.ecma_function.specs.Injecting.{writing}
 
 -- how many `super(..)` a tree has

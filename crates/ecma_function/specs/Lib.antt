@@ -1,5 +1,4 @@
 pub mod Calls
-pub mod Drawing
 pub mod Places
 pub mod Injecting
 pub mod Constructors

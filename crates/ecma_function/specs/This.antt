@@ -6,18 +6,15 @@ use Rattle.ecma_kind.specs.declared.kind.Kind.TheVariants as kind
 use Rattle.ecma_kind.specs.declared.operators.AssignOp.TheVariants.{Assign}
 use Rattle.ecma_tree.specs.Idents.{ident_node}
 use Rattle.ecma_tree.specs.Layers.{from_leaves}
-use Rattle.ecma_tree.specs.Nodes.{dummy_span, node_of}
+use Rattle.ecma_tree.specs.Nodes.{node_of}
 use Rattle.ecma_tree.specs.declared.node.Node.{Node, out-Node}
 use Rattle.ecma_utils.specs.Expressions.{assign_of, paren_of}
+use Rattle.ecma_function_parts.specs.Written.{this_node}
 use Rattle.ecma_function.specs.Calls.{is_super_call}
 
 abbrev pub is_class : Kind → Bool
 is_class (kind.Class is_abstract) = true
 is_class _ = false
-
---   this
-abbrev pub this_node : Node
-this_node = node_of dummy_span kind.ThisExpr []
 
 -- both have the place of the call
 --   (super(a), t = this)

@@ -5,10 +5,11 @@ ghost use Rattle.ecma_scope.specs.Drawing.{HasGivenAtMost};
 ghost use Rattle.ecma_tree.specs.declared.node.Node.{out-Node};
 ghost use Rattle.ecma_utils.specs.Directives.{front_length, is_text_stmt};
 ghost use Rattle.ecma_utils.specs.Expressions.{expr_stmt_of};
-ghost use Rattle.ecma_function.specs.Constructors.{after_super, after_super_draws, behind_texts, block_behind_texts, draws_in, first_or_absent, list_behind_texts, made_body, with_exprs};
+ghost use Rattle.ecma_function.specs.Constructors.{after_super, after_super_draws, behind_texts, block_behind_texts, draws_in, list_behind_texts, made_body, with_exprs};
 
 use crate::injecting::{Written, stmts_of, write};
 use crate::place::Place;
+use ecma_function_parts::first_or_absent;
 use ecma_tree::{DUMMY_SP, Expr, Kind, NoMemory, Node, Nodes, PassError, Session, Stmt};
 use ecma_utils::is_maybe_branch_directive;
 use std::alloc::Global;
@@ -59,16 +60,6 @@ fn block_behind_texts(alloc: Global, more: Nodes, block: Node) -> Result<Node, N
         block.children.set(0, list_behind_texts(more, list)?);
     }
     Ok(block)
-}
-
-pub(crate) fn first_or_absent(alloc: Global, nodes: Nodes) -> Node
-    ensures { result ≡ first_or_absent nodes }
-{
-    let mut nodes = nodes;
-    if nodes.is_empty() {
-        return Node::absent(alloc);
-    }
-    nodes.replace(0, Node::absent(alloc))
 }
 
 fn made_body(alloc: Global, body: Node) -> Result<Node, NoMemory>

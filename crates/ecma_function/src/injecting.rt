@@ -7,8 +7,8 @@ ghost use Rattle.ecma_utils.specs.Expressions.{expr_stmt_of};
 ghost use Rattle.ecma_function.specs.Injecting.{as_item, as_it_is, as_named, as_other, in_sequence, is_named, joined, nothing, role_of, temp_of, var_of, writing, written_as};
 
 use crate::call::{is_super_call, is_super_stmt};
-use crate::drawing::draw_if;
 use crate::place::{Place, is_outside, place_in};
+use ecma_function_parts::draw_if;
 use ecma_tree::{
     AssignOp, DUMMY_SP, Expr, Kind, NoMemory, Node, Nodes, PassError, Session, Stmt, SyntaxContext,
     VarDeclKind, copy_node,
@@ -44,7 +44,7 @@ fn var_of(alloc: Global, ctxt: SyntaxContext) -> Result<Stmt, NoMemory>
     Node::var_decl(alloc, DUMMY_SP, VarDeclKind::Var, false, decls)
 }
 
-#[tactic(auto, using(crate::proofs::Mapping::mapping))]
+#[tactic(auto, using(ecma_function_parts::proofs::Mapping::mapping))]
 fn vars_of(alloc: Global, temps: ItemList<SyntaxContext>) -> Result<Nodes, NoMemory>
     ensures { IfOk result (λ nodes. nodes ≡ map var_of temps) }
 {
@@ -56,7 +56,7 @@ fn vars_of(alloc: Global, temps: ItemList<SyntaxContext>) -> Result<Nodes, NoMem
 }
 
 /// Copies of the expressions.
-#[tactic(auto, using(crate::proofs::Mapping::mapping))]
+#[tactic(auto, using(ecma_function_parts::proofs::Mapping::mapping))]
 fn copies_of(alloc: Global, exprs: &[Expr]) -> Result<Nodes, NoMemory>
     ensures { IfOk result (λ nodes. nodes ≡ exprs.now) }
 {
@@ -68,7 +68,7 @@ fn copies_of(alloc: Global, exprs: &[Expr]) -> Result<Nodes, NoMemory>
 }
 
 /// The expressions as statements.
-#[tactic(auto, using(crate::proofs::Mapping::mapping))]
+#[tactic(auto, using(ecma_function_parts::proofs::Mapping::mapping))]
 pub(crate) fn stmts_of(alloc: Global, exprs: Nodes) -> Result<Nodes, NoMemory>
     ensures { IfOk result (λ nodes. nodes ≡ map expr_stmt_of exprs) }
 {

@@ -5,7 +5,6 @@
 
 mod call;
 mod constructor;
-mod drawing;
 mod injecting;
 mod laws;
 mod place;

@@ -1,10 +1,11 @@
 //! `super(..)` that sets a name to `this`.
 ghost use Rattle.std.specs.Prelude.{◌≡◌, IfOk, OnOk, map};
 ghost use Rattle.ecma_tree.specs.declared.node.Node.{out-Node};
-ghost use Rattle.ecma_function.specs.This.{initialised, initialised_over, is_class, setting_this, this_node};
+ghost use Rattle.ecma_function.specs.This.{initialised, initialised_over, is_class, setting_this};
 
 use crate::call::is_super_call;
-use ecma_tree::{AssignOp, DUMMY_SP, Expr, Ident, Kind, NoMemory, Node, Nodes, Stmt};
+use ecma_function_parts::this_node;
+use ecma_tree::{AssignOp, Expr, Ident, Kind, NoMemory, Node, Nodes, Stmt};
 use ecma_utils::ExprFactory;
 use std::alloc::Global;
 use std::mem;
@@ -13,13 +14,6 @@ fn is_class(kind: &Kind) -> bool
     ensures { result ≡ is_class kind.now }
 {
     matches!(kind, Kind::Class { .. })
-}
-
-/// `this`
-pub(crate) fn this_node(alloc: Global) -> Expr
-    ensures { result ≡ this_node }
-{
-    Node::leaf(alloc, DUMMY_SP, Kind::ThisExpr)
 }
 
 /// `(call, name = this)`

@@ -3,11 +3,11 @@ use Rattle.ecma_kind.specs.declared.kind.Kind.{Kind}
 use Rattle.ecma_tree.specs.Nodes.{node_of}
 use Rattle.ecma_tree.specs.declared.node.Node.{Node, out-Node}
 use Rattle.ecma_tree.proofs.Weights.{weight-child}
+use Rattle.ecma_function_parts.specs.Drawing.{count}
+use Rattle.ecma_function_parts.proofs.Children.{as-long, child-was, rest-same}
 use Rattle.ecma_function.specs.declared.injecting.Written.{Written}
-use Rattle.ecma_function.specs.Drawing.{count}
 use Rattle.ecma_function.specs.Injecting.{Outcome, is_named}
 use Rattle.ecma_function.specs.Places.{place_in}
-use Rattle.ecma_function.proofs.Children.{as-long, child-was, rest-same}
 use Rattle.ecma_function.proofs.Underway.{Underway, entered-given, entered-left, entered-spent, entered-written, outside-is, own-given, own-spent, underway-all, underway-given, underway-left, underway-next-at, underway-spent-at, underway-start, underway-stops-at}
 use Rattle.ecma_function.proofs.injecting.+write.Goals as goal
 

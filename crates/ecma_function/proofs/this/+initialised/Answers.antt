@@ -3,8 +3,8 @@ use Rattle.ecma_kind.specs.declared.kind.Kind.{Kind}
 use Rattle.ecma_tree.specs.Nodes.{node_of}
 use Rattle.ecma_tree.specs.declared.node.Node.{Node, out-Node}
 use Rattle.ecma_tree.proofs.Weights.{weight-child}
+use Rattle.ecma_function_parts.proofs.Children.{as-long, child-was, mapping-all, mapping-next, rest-same}
 use Rattle.ecma_function.specs.This.{initialised, initialised_over}
-use Rattle.ecma_function.proofs.Children.{as-long, child-was, mapping-all, mapping-next, rest-same}
 use Rattle.ecma_function.proofs.Setting.{class-stays, node-set}
 use Rattle.ecma_function.proofs.this.+initialised.Goals as goal
 

@@ -1,6 +1,6 @@
 use Rattle.std.proofs.Common.{◌≡◌, ◌∙◌, ◌<◌, length, sym, arith}
+use Rattle.ecma_function_parts.proofs.Children.{replaced-next, replaced-was}
 use Rattle.ecma_function.specs.This.{initialised}
-use Rattle.ecma_function.proofs.Children.{replaced-next, replaced-was}
 use Rattle.ecma_function.proofs.this.init_this.Goals as goal
 
 pub loop-i-preserved : goal.loop-i-preserved
