@@ -27,7 +27,8 @@ use Rattle.ecma_lower_enums_sources.specs.Laws.{WritingEnumsKeepsNamesShort, Wri
 use Rattle.ecma_lower_enums_sources.specs.Premises.{AreWritten, HasText, HasTextBy, IsText}
 use Rattle.ecma_lower_enums_sources.specs.Throughout.{Throughout}
 use Rattle.ecma_lower_enums_sources.proofs.Literals.{IsValueSo, Literals, is_operator, known-good, undefined-good}
-use Rattle.ecma_lower_enums_sources.proofs.Making.{Makes, is_frame, tree-written}
+use Rattle.ecma_lower_enums_sources.proofs.Making.{Makes, tree-written}
+use Rattle.ecma_lower_enums_sources.proofs.Pieces.{is_frame}
 use Rattle.ecma_lower_enums_sources.proofs.Names.{tree-given}
 use Rattle.ecma_lower_enums_sources.proofs.Trees.{Both, Of, both-so, everywhere-so, fails-everywhere-not, fails-nowhere}
 
@@ -131,20 +132,20 @@ written_enums_have_texts may_change keeps_constants members tree values names te
 
 -- ---- tests of names
 
-abbrev Any : (Span → Kind → Type 0) → TsEnumRecordValue → Type 0
+abbrev pub Any : (Span → Kind → Type 0) → TsEnumRecordValue → Type 0
 Any R = IsValueSo R (λ n. Unit) (λ t. Unit)
 
 any-number : (R : Span → Kind → Type 0) (n : JsNumber) → Any R (value.Number n)
 any-number R (number.Whole m) = tt
 any-number R _ = tt
 
-any-value : (R : Span → Kind → Type 0) (v : TsEnumRecordValue) → Any R v
+pub any-value : (R : Span → Kind → Type 0) (v : TsEnumRecordValue) → Any R v
 any-value R (value.String t) = tt
 any-value R (value.Number n) = any-number R n
 any-value R value.Opaque = tt
 any-value R value.Void = tt
 
-any-values : (es : List TsEnumRecordEntry) (R : Span → Kind → Type 0) → All (λ (e : TsEnumRecordEntry). Any R e.value) es
+pub any-values : (es : List TsEnumRecordEntry) (R : Span → Kind → Type 0) → All (λ (e : TsEnumRecordEntry). Any R e.value) es
 any-values [] R = All-nil (λ (e : TsEnumRecordEntry). Any R e.value)
 any-values (e ∷ es) R = All-cons (λ (e : TsEnumRecordEntry). Any R e.value) e es (any-value R e.value) (any-values es R)
 

@@ -1,5 +1,6 @@
 mod Trees
 mod Names
+mod Pieces
 mod Making
 mod Literals
 mod Kept
@@ -9,3 +10,7 @@ mod Forming
 mod Relating
 mod Sorted
 mod SortsKept
+mod Alike
+mod Tests
+mod Clauses
+mod ClausesKept

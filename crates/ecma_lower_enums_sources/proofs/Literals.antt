@@ -84,7 +84,7 @@ module _ (P : Span → Kind → Type 0) (IsSo : ℤ → Type 0) (IsText : List �
     IfGood None = Unit
     IfGood (Some e) = Good e
 
-    expression-good : (v : TsEnumRecordValue) → IsValueSo v → IfGood (expression v)
+    pub expression-good : (v : TsEnumRecordValue) → IsValueSo v → IfGood (expression v)
     expression-good (value.String t) h = good P dummy_span (kind.Str t None) [] (literals.text t h) none
     expression-good (value.Number n) h = number-good n h
     expression-good value.Opaque h = tt

@@ -39,31 +39,8 @@ use Rattle.ecma_lower_enums.specs.Seats.{Seat, around_at, around_in, behind, nex
 use Rattle.ecma_lower_enums.specs.Writing.{answer_by, answered, bound_answer, bound_name, done_by, first_list, form_of, is_enum_first, member_answer, member_form, name_answer, or_itself, pair, part_form, pattern_answer, read, second, short_answer, short_name, target_of, value_read, with_default, with_enums_written, wrapped, writing}
 use Rattle.ecma_lower_enums_sources.specs.Throughout.{Each, Throughout, more, none, throughout}
 use Rattle.ecma_lower_enums_sources.proofs.Names.{AreGiven, IsName, IsNamed, alias-given, first-named, name-named}
-use Rattle.ecma_lower_enums_sources.proofs.Trees.{Of, alone, append, below-roll, first-of, good, here, others-of, weaker}
-
--- what is made, but for names, keys and literals
-abbrev pub is_frame : Kind → Bool
-is_frame kind.Absent = true
-is_frame kind.List = true
-is_frame kind.MemberExpr = true
-is_frame kind.ComputedPropName = true
-is_frame (kind.AssignExpr op) = true
-is_frame (kind.BinExpr op) = true
-is_frame kind.ObjectLit = true
-is_frame kind.CallExpr = true
-is_frame kind.FnExpr = true
-is_frame (kind.Function is_generator is_async) = true
-is_frame kind.Param = true
-is_frame kind.BlockStmt = true
-is_frame kind.ExprStmt = true
-is_frame (kind.VarDecl word declare) = true
-is_frame (kind.VarDeclarator definite) = true
-is_frame kind.BindingIdent = true
-is_frame kind.ExportDecl = true
-is_frame kind.KeyValueProp = true
-is_frame kind.KeyValuePatProp = true
-is_frame kind.AssignPat = true
-is_frame _ = false
+use Rattle.ecma_lower_enums_sources.proofs.Pieces.{Pieces, absent-good, is_frame, key-good, member-good, member_in-good, over, part-good, two}
+use Rattle.ecma_lower_enums_sources.proofs.Trees.{Of, alone, append, below-roll, first-of, good, here, others-of, parts-of, weaker}
 
 module _ (P : Span → Kind → Type 0) (Q : Node → Type 0) (enums : KnownEnums) where
   abbrev pub Good : Node → Type 0
@@ -88,166 +65,14 @@ module _ (P : Span → Kind → Type 0) (Q : Node → Type 0) (enums : KnownEnum
     pub names : AreGiven P enums.names
 
   module _ (makes : Makes) where
-    -- ---- parts
-
-    over : (span : Span) (k : Kind) (cs : List Node) → is_frame k ≡ true → All cs → Good (node_of span k cs)
-    over span k cs f h = good P span k cs (makes.frame span k f) h
-
-    two : (n m : Node) → Good n → Good m → All (n ∷ m ∷ [])
-    two n m h g = more h (more g none)
-
-    pub absent-good : Good absent
-    absent-good = over dummy_span kind.Absent [] refl none
-
-    list-good : (ns : List Node) → All ns → Good (list_node ns)
-    list-good ns h = over dummy_span kind.List ns refl h
-
-    ident-good : (of : Ident) → IsName P of → Good (ident_node of)
-    ident-good of h = good P of.span (kind.Ident of.sym of.ctxt of.optional) [] h none
-
-    key-good : (span : Span) (sym : List ℕ) → P span (kind.IdentName sym) → Good (key_of span sym)
-    key-good span sym h = good P span (kind.IdentName sym) [] h none
-
-    text-good : (text : List ℕ) → P dummy_span (kind.Str text None) → Good (text_literal text)
-    text-good text h = good P dummy_span (kind.Str text None) [] h none
-
-    -- E.A
-    member-good : (of : Ident) (sym : List ℕ) → IsName P of → P dummy_span (kind.IdentName sym) → Good (member of sym)
-    member-good of sym h g = over dummy_span kind.MemberExpr (ident_node of ∷ key_of dummy_span sym ∷ []) refl (two (ident_node of) (key_of dummy_span sym) (ident-good of h) (key-good dummy_span sym g))
-
-    -- e[p]
-    computed-good : (e p : Node) → Good e → Good p → Good (computed_member_of e p)
-    computed-good e p h g =
-        let key = over dummy_span kind.ComputedPropName (p ∷ []) refl (more g none) in
-        over dummy_span kind.MemberExpr (e ∷ node_of dummy_span kind.ComputedPropName (p ∷ []) ∷ []) refl (more h (more key none))
-
-    assign-good : (target e : Node) → Good target → Good e → Good (assign_of Assign target e)
-    assign-good target e h g = over dummy_span (kind.AssignExpr Assign) (target ∷ e ∷ []) refl (two target e h g)
-
-    -- ---- members
-
-    at_text-good : (of : Ident) (sym : List ℕ) → IsName P of → P dummy_span (kind.Str sym None) → Good (at_text of sym)
-    at_text-good of sym h t = computed-good (ident_node of) (text_literal sym) (ident-good of h) (text-good sym t)
-
-    set_text-good : (of : Ident) (sym : List ℕ) (v : Node) → IsName P of → P dummy_span (kind.Str sym None) → Good v → Good (set_text of sym v)
-    set_text-good of sym v h t g = assign-good (at_text of sym) v (at_text-good of sym h t) g
-
-    set_other-good : (of : Ident) (sym : List ℕ) (v : Node) → IsName P of → P dummy_span (kind.Str sym None) → Good v → Good (set_other of sym v)
-    set_other-good of sym v h t g =
-        assign-good (computed_member_of (ident_node of) (set_text of sym v)) (text_literal sym)
-        (computed-good (ident_node of) (set_text of sym v) (ident-good of h) (set_text-good of sym v h t g)) (text-good sym t)
-
-    as_it_stands-good : (init : Node) → Good init → Good (as_it_stands init)
-    as_it_stands-good init h = by (is_absent (out-Node init).kind)
-      where
-        by : (b : Bool) → Good (cond b undefined init)
-        by true = makes.void
-        by false = h
-
-    value_or-good : (o : Option Node) (init : Node) → IfGood o → Good init → Good (value_or o init)
-    value_or-good None init h g = as_it_stands-good init g
-    value_or-good (Some e) init h g = h
-
-    set_member-good : (of : Ident) (sym : List ℕ) (v : Option TsEnumRecordValue) (init : Node) → IsName P of → P dummy_span (kind.Str sym None) → IfGood (option_and_then expression v) → Good init
-        → Good (set_member of sym v init)
-    set_member-good of sym v init h t value g = by (is_known_text v)
-      where
-        written : Good (value_of v init)
-        written = value_or-good (option_and_then expression v) init value g
-
-        by : (b : Bool) → Good (cond b (set_text of sym (value_of v init)) (set_other of sym (value_of v init)))
-        by true = set_text-good of sym (value_of v init) h t written
-        by false = set_other-good of sym (value_of v init) h t written
-
-    member-written : (of : Ident) (skips : Bool) (span : Span) (sym : List ℕ) (init : Node) → IsName P of → P dummy_span (kind.Str sym None) → Good init → All (member_of_enum enums skips of span sym init)
-    member-written of skips span sym init h t g = by (skips && is_known (known_value enums of sym))
-      where
-        e : Node
-        e = set_member of sym (known_value enums of sym) init
-
-        set : Good e
-        set = set_member-good of sym (known_value enums of sym) init h t (makes.values false (member of sym)) g
-
-        by : (b : Bool) → All (cond b [] (node_of span kind.ExprStmt (e ∷ []) ∷ []))
-        by true = none
-        by false = more (over span kind.ExprStmt (e ∷ []) refl (more set none)) none
-
-    member_in-good : (skips : Bool) (o : Option Ident) (span : Span) (sym : List ℕ) (init : Node) → IsNamed P o → P dummy_span (kind.Str sym None) → Good init → All (member_in enums skips o span sym init)
-    member_in-good skips None span sym init h t g = none
-    member_in-good skips (Some of) span sym init h t g = member-written of skips span sym init h t g
-
-    -- ---- the variable
-
-    declared-good : (of : Ident) → IsName P of → Good (declared of)
-    declared-good of h = over of.span kind.BindingIdent (ident_node of ∷ absent ∷ []) refl (two (ident_node of) absent (ident-good of h) absent-good)
-
-    variable-good : (part : Part) → IsName P part.name → Good (variable part)
-    variable-good part h =
-        let d = node_of part.name.span (kind.VarDeclarator false) (declared part.name ∷ absent ∷ []) in
-        let dg = over part.name.span (kind.VarDeclarator false) (declared part.name ∷ absent ∷ []) refl (two (declared part.name) absent (declared-good part.name h) absent-good) in
-        over part.name.span (kind.VarDecl (word_of part.at_top) false) (list_node (d ∷ []) ∷ []) refl (more (list-good (d ∷ []) (more dg none)) none)
-
-    declaration-good : (part : Part) (around : Around) → IsName P part.name → Good (declaration part around)
-    declaration-good part around h = by (is_exported_here part around)
-      where
-        by : (b : Bool) → Good (cond b (node_of part.name.span kind.ExportDecl (variable part ∷ [])) (variable part))
-        by true = over part.name.span kind.ExportDecl (variable part ∷ []) refl (more (variable-good part h) none)
-        by false = variable-good part h
-
-    declarations-good : (part : Part) (around : Around) → IsName P part.name → All (declarations part around)
-    declarations-good part around h = by (has_id part.name around.before)
-      where
-        by : (b : Bool) → All (cond b [] (declaration part around ∷ []))
-        by true = none
-        by false = more (declaration-good part around h) none
-
-    -- ---- the call
-
-    or_new-good : (t : Node) → Good t → Good (or_new t)
-    or_new-good t h =
-        let object = node_of dummy_span kind.ObjectLit (list_node [] ∷ []) in
-        let og = over dummy_span kind.ObjectLit (list_node [] ∷ []) refl (more (list-good [] none) none) in
-        over dummy_span (kind.BinExpr binary.LogicalOr) (t ∷ assign_of Assign t object ∷ []) refl (two t (assign_of Assign t object) h (assign-good t object h og))
-
-    object-good : (exported : Bool) (o : Option Ident) (of : Ident) → IsNamed P o → IsName P of → Good (object_by exported o of)
-    object-good true (Some outer) of h g =
-        assign-good (ident_node of) (or_new (member outer of.sym)) (ident-good of g)
-        (or_new-good (member outer of.sym) (member-good outer of.sym h (makes.key of.span dummy_span of.sym of.ctxt of.optional g)))
-    object-good true None of h g = or_new-good (ident_node of) (ident-good of g)
-    object-good false o of h g = or_new-good (ident_node of) (ident-good of g)
-
-    parameters-good : (of : Ident) → IsName P of → All (parameters of)
-    parameters-good of h = by (is_this of)
-      where
-        by : (b : Bool) → All (cond b [] (node_of of.span kind.Param (declared of ∷ []) ∷ []))
-        by true = none
-        by false = more (over of.span kind.Param (declared of ∷ []) refl (more (declared-good of h) none)) none
-
-    function-good : (of : Ident) (list : Node) → IsName P of → Good list → Good (function_of of list)
-    function-good of list h g =
-        let block = over dummy_span kind.BlockStmt (list ∷ []) refl (more g none) in
-        let cs = list_node (parameters of) ∷ block_of list ∷ absent ∷ absent ∷ [] in
-        let f = node_of dummy_span (kind.Function false false) cs in
-        let fg = over dummy_span (kind.Function false false) cs refl (more (list-good (parameters of) (parameters-good of h)) (more block (two absent absent absent-good absent-good))) in
-        over (out-Node f).span kind.FnExpr (absent ∷ f ∷ []) refl (two absent f absent-good fg)
-
-    call-good : (span : Span) (part : Part) (around : Around) (list : Node) → IsName P part.name → IsNamed P around.name → Good list → Good (call span part around list)
-    call-good span part around list h g l =
-        let f = function_of part.name list in
-        let o = object_by part.exported around.name part.name in
-        let args = list-good (o ∷ []) (more (object-good part.exported around.name part.name g h) none) in
-        let called = over dummy_span kind.CallExpr (f ∷ list_node (o ∷ []) ∷ absent ∷ []) refl (more (function-good part.name list h l) (two (list_node (o ∷ [])) absent args absent-good)) in
-        over span kind.ExprStmt (call_of dummy_span f (o ∷ []) ∷ []) refl (more called none)
-
-    calls-good : (span : Span) (part : Part) (around : Around) (list : Node) → IsName P part.name → IsNamed P around.name → Good list → All (calls enums span part around list)
-    calls-good span part around list h g l = by (skips enums part && is_nil (out-Node list).children)
-      where
-        by : (b : Bool) → All (cond b [] (call span part around list ∷ []))
-        by true = none
-        by false = more (call-good span part around list h g l) none
-
-    part-good : (span : Span) (part : Part) (around : Around) (list : Node) → IsName P part.name → IsNamed P around.name → Good list → All (part_statements enums span part around list)
-    part-good span part around list h g l = append (Of P) (declarations-good part around h) (calls-good span part around list h g l)
+    pieces : Pieces (Of P) P enums
+    pieces = record {
+      frame = λ span k cs f. parts-of (λ s j ds. P s j) span k cs (makes.frame span k f);
+      leaf = λ span k p. parts-of (λ s j ds. P s j) span k [] p;
+      key = makes.key;
+      void = makes.void;
+      values = makes.values;
+    }
 
     -- ---- reads
 
@@ -264,10 +89,10 @@ module _ (P : Span → Kind → Type 0) (Q : Node → Type 0) (enums : KnownEnum
     IsAnswered (Some (Pattern key e)) = Good key × Good e
 
     name-member : (of : Ident) (span : Span) (sym : List ℕ) (ctxt : ℕ) (optional : Bool) → IsName P of → P span (kind.Ident sym ctxt optional) → Good (member of sym)
-    name-member of span sym ctxt optional h p = member-good of sym h (makes.key span dummy_span sym ctxt optional p)
+    name-member of span sym ctxt optional h p = member-good (Of P) P enums pieces of sym h (makes.key span dummy_span sym ctxt optional p)
 
     pair-good : (span : Span) (sym : List ℕ) (e : Node) → P span (kind.IdentName sym) → Good e → Good (pair span sym e)
-    pair-good span sym e k h = over span kind.KeyValueProp (key_of span sym ∷ e ∷ []) refl (two (key_of span sym) e (key-good span sym k) h)
+    pair-good span sym e k h = over (Of P) P enums pieces span kind.KeyValueProp (key_of span sym ∷ e ∷ []) refl (two (Of P) P enums pieces (key_of span sym) e (key-good (Of P) P enums pieces span sym k) h)
 
     name-answered : (p : Place) (span : Span) (sym : List ℕ) (ctxt : ℕ) (optional : Bool) (o : Option Ident) → P span (kind.Ident sym ctxt optional) → IsNamed P o → IsAnswered (name_answer enums p span sym o)
     name-answered place.Read span sym ctxt optional (Some of) h g = read-good (member of sym) (name-member of span sym ctxt optional g h)
@@ -289,7 +114,7 @@ module _ (P : Span → Kind → Type 0) (Q : Node → Type 0) (enums : KnownEnum
       where
         by : (o : Option Ident) → IsNamed P o → IsAnswered (option_map (λ of. Pattern (key_of name.span name.sym) (member of name.sym)) o)
         by None g = tt
-        by (Some of) g = (key-good name.span name.sym (makes.key name.span name.span name.sym name.ctxt name.optional h), name-member of name.span name.sym name.ctxt name.optional g h)
+        by (Some of) g = (key-good (Of P) P enums pieces name.span name.sym (makes.key name.span name.span name.sym name.ctxt name.optional h), name-member of name.span name.sym name.ctxt name.optional g h)
 
     bound-answered : (p : Place) (cs : List Node) → IsNamed P (bound_name cs) → IsAnswered (bound_answer enums p cs)
     bound-answered place.Target cs h = by (bound_name cs) h
@@ -333,7 +158,7 @@ module _ (P : Span → Kind → Type 0) (Q : Node → Type 0) (enums : KnownEnum
     -- ---- one for one
 
     only-good : (ns : List Node) → All ns → Good (only ns)
-    only-good [] h = absent-good
+    only-good [] h = absent-good (Of P) P enums pieces
     only-good (n ∷ ns) h = first-of (Of P) h
 
     abbrev AllLists : List (List Node) → Type 0
@@ -349,10 +174,10 @@ module _ (P : Span → Kind → Type 0) (Q : Node → Type 0) (enums : KnownEnum
       where
         by : (b : Bool) → Good (cond b e (node_of span kind.AssignPat (e ∷ value ∷ [])))
         by true = h
-        by false = over span kind.AssignPat (e ∷ value ∷ []) refl (two e value h g)
+        by false = over (Of P) P enums pieces span kind.AssignPat (e ∷ value ∷ []) refl (two (Of P) P enums pieces e value h g)
 
     get-good : (ns : List Node) (i : ℕ) → All ns → Good (get_or ns i absent)
-    get-good [] i h = absent-good
+    get-good [] i h = absent-good (Of P) P enums pieces
     get-good (n ∷ ns) zero h = first-of (Of P) h
     get-good (n ∷ ns) (suc i) h = get-good ns i (others-of (Of P) h)
 
@@ -360,8 +185,8 @@ module _ (P : Span → Kind → Type 0) (Q : Node → Type 0) (enums : KnownEnum
     answered-good None span k cs a h g = good P span k cs h g
     answered-good (Some (Instead e)) span k cs a h g = a
     answered-good (Some (Pattern key e)) span k cs a h g =
-        over span kind.KeyValuePatProp (key ∷ with_default span e (get_or cs 1 absent) ∷ []) refl
-        (two key (with_default span e (get_or cs 1 absent)) a.0 (default-good span e (get_or cs 1 absent) a.1 (get-good cs 1 g)))
+        over (Of P) P enums pieces span kind.KeyValuePatProp (key ∷ with_default span e (get_or cs 1 absent) ∷ []) refl
+        (two (Of P) P enums pieces key (with_default span e (get_or cs 1 absent)) a.0 (default-good span e (get_or cs 1 absent) a.1 (get-good cs 1 g)))
 
     -- ---- forms
 
@@ -395,7 +220,7 @@ module _ (P : Span → Kind → Type 0) (Q : Node → Type 0) (enums : KnownEnum
     first_list-good (l ∷ ls) h = h.0
 
     second-good : (ls : List (List Node)) → AllLists ls → Good (second ls)
-    second-good [] h = absent-good
+    second-good [] h = absent-good (Of P) P enums pieces
     second-good (l ∷ ls) h = only-good (first_list ls) (first_list-good ls h.1)
 
     each-wrapped : (span : Span) (k : Kind) → P span k → (l : List Node) (ms : List Node) → All l → All ms → All (map (λ e. node_of span k (e ∷ ms)) l)
@@ -409,12 +234,12 @@ module _ (P : Span → Kind → Type 0) (Q : Node → Type 0) (enums : KnownEnum
     done-good : (s : Seat) (span : Span) (k : Kind) (cs : List Node) (ls : List (List Node)) (f : Form) → IsNamed P s.around.name → Throughout Q (node_of span k cs) → P span k → IsFormed k f → AllLists ls
         → All (done_by enums s span k cs ls f)
     done-good s span k cs ls form.Wrapped named q p is h = wrapped-good span k p ls h
-    done-good s span k cs ls (form.Part part) named q p is h = part-good span part s.around (second ls) is named (second-good ls h)
+    done-good s span k cs ls (form.Part part) named q p is h = part-good (Of P) P enums pieces span part s.around (second ls) is named (second-good ls h)
     done-good s span k cs ls form.Export named q p is h = first_list-good ls h
     done-good s span k cs ls (form.Member skips) named q p is h =
         let m = node_of span k cs in
         let kind-is : (out-Node m).kind ≡ kind.TsEnumMember = ap (λ (z : Node-F Node). z.kind) (out-roll-Node (record { span = span; kind = k; children = cs })) ∙ is in
-        member_in-good skips s.around.name (out-Node m).span (member_name m) (second ls) named (makes.text m kind-is (here Q q)) (second-good ls h)
+        member_in-good (Of P) P enums pieces skips s.around.name (out-Node m).span (member_name m) (second ls) named (makes.text m kind-is (here Q q)) (second-good ls h)
     done-good s span k cs ls form.One named q p is h =
         alone (Of P) (answered-good (answer_by enums s.place span k cs) span k (map only ls) (all-answered s.place span k cs p (below-roll Q span k cs q)) p (ones-good ls h))
 
@@ -510,7 +335,7 @@ module _ (P : Span → Kind → Type 0) (Q : Node → Type 0) (enums : KnownEnum
         → All (layer r s span k (nodes ns))
     layer-written s span k ns true l h named =
         subst (λ z. All (layer r s span z (nodes ns))) (sym (list-kind k l))
-        (alone (Of P) (over span kind.List (items r s (nodes ns)) refl (items-written ns (below-roll Q span k (nodes ns) h) s named)))
+        (alone (Of P) (over (Of P) P enums pieces span kind.List (items r s (nodes ns)) refl (items-written ns (below-roll Q span k (nodes ns) h) s named)))
     layer-written s span k ns false l h named = subst All (sym (layer-other r s span k (nodes ns) l)) (here-written s span k ns h named)
 
     pub all-written : (n : Node) → Written n

@@ -15,13 +15,13 @@ use Rattle.ecma_lower_enums_sources.proofs.Sorted.{module-sorted}
 use Rattle.ecma_lower_enums_sources.proofs.Trees.{anywhere}
 
 -- of names nothing is asked
-abbrev N : Ident → Type 0
+abbrev pub N : Ident → Type 0
 N of = Unit
 
-abbrev K : List ℕ → Type 0
+abbrev pub K : List ℕ → Type 0
 K sym = Unit
 
-abbrev Q : Node → Type 0
+abbrev pub Q : Node → Type 0
 Q n = Unit
 
 any-name : (enums : KnownEnums) (o : Option Ident) → IfN enums N K o
@@ -32,7 +32,7 @@ any-key : (enums : KnownEnums) (span : Span) (k : Kind) → IsKeyed enums N K Q 
 any-key enums span (kind.Ident sym ctxt optional) = tt
 any-key enums span _ = tt
 
-facts : (enums : KnownEnums) → Facts enums N K Q
+pub facts : (enums : KnownEnums) → Facts enums N K Q
 facts enums = record {
   idents = λ n q. any-key enums (out-Node n).span (out-Node n).kind;
   parts = λ n q is. any-name enums (name_at (out-Node n).children);

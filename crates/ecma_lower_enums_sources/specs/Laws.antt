@@ -1,14 +1,19 @@
--- A module with its enums written, and with reads of their members, whatever is known of these: it is one by its sorts, its texts can be written, and no name is made.
+-- A module with its enums written, and with reads of their members, whatever is known of these: it is one by its sorts, keeps clauses of what fits, its texts can be written, and no name is made.
 use Rattle.std.specs.Prelude.{Bool, List}
 use Rattle.ecma_kind.specs.declared.shapes.Sort.TheVariants as sort
 use Rattle.ecma_tree.specs.Sorted.{HasSort}
 use Rattle.ecma_tree.specs.declared.node.Node.{Node}
 use Rattle.ecma_text_leaves.specs.Everywhere.{Everywhere}
 use Rattle.ecma_enums.specs.declared.record.TsEnumRecordEntry.{TsEnumRecordEntry}
+use Rattle.ecma_fits.specs.Branches.{is_dangling}
+use Rattle.ecma_fits.specs.Chains.{is_loose}
+use Rattle.ecma_fits.specs.Fitting.{NoneFails}
+use Rattle.ecma_fits.specs.Members.{is_misread}
 use Rattle.ecma_hygiene_fits.specs.Placed.{NoneMade}
 use Rattle.ecma_hygiene_fits.specs.Spelled.{NoneLong}
 use Rattle.ecma_plain.specs.Plain.{HasUtf8Texts}
 use Rattle.ecma_plain.specs.Writable.{IsWritable}
+use Rattle.ecma_rules.specs.Members.{has_second_constructor}
 use Rattle.ecma_lower_enums.specs.Lowered.{known_enums}
 use Rattle.ecma_lower_enums.specs.Writing.{with_enums_written}
 use Rattle.ecma_lower_enums_sources.specs.Premises.{AreWritten, HasText}
@@ -22,6 +27,19 @@ written may_change keeps_constants members tree = with_enums_written (known_enum
 
 abbrev pub WrittenEnumsAreSorted : Type 0
 WrittenEnumsAreSorted = (may_change keeps_constants : Bool) (members : List TsEnumRecordEntry) (tree : Node) → HasSort sort.Module tree → HasSort sort.Module (written may_change keeps_constants members tree)
+
+-- ---- what fits
+
+-- of the clauses of what fits, those that ask nothing of where a node stands, each that a tree keeps
+pub record KeepsClauses (before after : Node) : Type 0 where
+  pub branches : NoneFails (λ w node. is_dangling node) before → NoneFails (λ w node. is_dangling node) after
+  pub chains : NoneFails (λ w node. is_loose node) before → NoneFails (λ w node. is_loose node) after
+  pub members : NoneFails (λ w node. is_misread node) before → NoneFails (λ w node. is_misread node) after
+  pub constructors : NoneFails (λ w node. has_second_constructor node) before → NoneFails (λ w node. has_second_constructor node) after
+
+abbrev pub WrittenEnumsKeepClauses : Type 0
+WrittenEnumsKeepClauses =
+    (may_change keeps_constants : Bool) (members : List TsEnumRecordEntry) (tree : Node) → HasSort sort.Module tree → KeepsClauses tree (written may_change keeps_constants members tree)
 
 -- ---- names
 

@@ -3,11 +3,16 @@
 //! Each function carries one law over the definitions, and does nothing. The laws are stated in `specs/Laws.antt`.
 #![tactic(auto)]
 
-ghost use Rattle.ecma_lower_enums_sources.specs.Laws.{WritingEnumsKeepsNamesShort, WritingEnumsMakesNoNames, WrittenEnumsAreSorted, WrittenEnumsHaveTexts};
+ghost use Rattle.ecma_lower_enums_sources.specs.Laws.{WritingEnumsKeepsNamesShort, WritingEnumsMakesNoNames, WrittenEnumsAreSorted, WrittenEnumsHaveTexts, WrittenEnumsKeepClauses};
 
 /// Each node has the sort that its parent asks for, from a module on, where it had.
 pub fn written_enums_are_sorted()
     ensures { WrittenEnumsAreSorted }
+{}
+
+/// No `if` takes an outer `else`, no link of an optional chain is loose, no member is misread, and no class has two constructors with bodies, each where none did.
+pub fn written_enums_keep_clauses()
+    ensures { WrittenEnumsKeepClauses }
 {}
 
 /// Each literal that is written can be read, and each text is UTF-8, where what is known of members and their names can be written.
