@@ -1,11 +1,14 @@
 -- The names that a scope declares.
-use Rattle.std.specs.Prelude.{ℕ, suc, Bool, true, false, ◌&&◌, ◌==◌, not, List, [], ◌∷◌, ◌++◌, filter, Option, Some, None, bytes_eq, cond}
+use Rattle.std.specs.Prelude.{ℕ, suc, Bool, true, false, ◌&&◌, ◌||◌, ◌==◌, not, List, [], ◌∷◌, ◌++◌, filter, take, Option, Some, None, bytes_eq, cond, slice_get}
 use Rattle.std.specs.List.{list_any}
+use Rattle.std.specs.Option.{option_and_then, option_map, option_map_or}
 use Rattle.ecma_kind.specs.declared.kind.Kind.{Kind}
 use Rattle.ecma_kind.specs.declared.kind.Kind.TheVariants as kind
 use Rattle.ecma_kind.specs.declared.operators.VarDeclKind.TheVariants as var_kind
 use Rattle.ecma_tree.specs.declared.node.Node.{Node, out-Node}
+use Rattle.ecma_tree.specs.Idents.{ident_of}
 use Rattle.ecma_tree.specs.Layers.{from_leaves}
+use Rattle.ecma_tree.specs.Nodes.{node_of}
 use Rattle.ecma_tree.specs.Values.{is_value_where}
 use Rattle.ecma_scope.specs.declared.role.Role.{Role}
 use Rattle.ecma_scope.specs.declared.role.Role.TheVariants as role
@@ -15,7 +18,7 @@ use Rattle.ecma_scope.specs.declared.form.Declaration.{Declaration}
 use Rattle.ecma_scope.specs.declared.form.Part.{Part}
 use Rattle.ecma_scope.specs.declared.form.Part.TheVariants as part
 use Rattle.ecma_scope.specs.declared.form.Sought.{Sought}
-use Rattle.ecma_scope.specs.Scopes.{is_ambient}
+use Rattle.ecma_scope.specs.Scopes.{is_ambient, is_members}
 
 abbrev pub seek : Part → Bool → Option Sought
 seek part stays = Some (record { part = part; stays = stays })
@@ -111,7 +114,6 @@ in_scope stays value (kind.Constructor accessibility is_optional) i = seek_at 1 
 in_scope stays value kind.SetterProp i = seek_at 2 i (part.Name form.Parameter) stays
 in_scope stays value kind.FnExpr i = seek_at 0 i (part.Name form.Own) stays
 in_scope stays value kind.ClassExpr i = seek_at 0 i (part.Name form.Own) stays
-in_scope stays value (kind.TsEnumDecl declare is_const) i = seek_at 1 i part.Member stays
 in_scope stays value (kind.TsNamespaceDecl declare global) i = cond value (seek_at 0 i (part.Name form.Namespace) stays) None
 in_scope stays value _ i = None
 
@@ -140,9 +142,16 @@ abbrev named_by : Part → List ℕ → Bool → List Declaration
 named_by (part.Name f) sym stays = record { sym = sym; form = f; stays = stays } ∷ []
 named_by _ sym stays = []
 
+-- a member may be written as a text
+--   enum E { "A" = 1, B = A }
+abbrev member_by : Part → List ℕ → Bool → List Declaration
+member_by (part.Name form.Member) text stays = record { sym = text; form = form.Member; stays = stays } ∷ []
+member_by _ text stays = []
+
 -- an identifier where names are looked for declares its text
 unfoldable pub declared_here : Sought → Kind → List Declaration
 declared_here sought (kind.Ident sym ctxt optional) = named_by sought.part sym sought.stays
+declared_here sought (kind.Str text raw) = member_by sought.part text sought.stays
 declared_here sought _ = []
 
 abbrev pub found_at : Option Sought → (Sought → List Declaration) → List Declaration
@@ -202,13 +211,70 @@ is_own _ parameters d = true
 
 abbrev pub own_part : Role → Part
 own_part role.Default = part.Item
+own_part (role.Members ambient) = part.Member
 own_part _ = part.Scope
 
 -- the `var` names that belong to the scope of a node
 abbrev pub vars_of : Role → Bool → Node → List Declaration
 vars_of r stays node = cond (holds_vars r (out-Node node).kind) (declarations node (record { part = part.Var; stays = stays })) []
 
--- what the scope that a node opens declares; around it stands a scope that states so much of a text
+-- what the scope that a node opens declares, in all; around it stands a scope that states so much of a text
 abbrev pub names : Role → (List ℕ → Option Bool) → Node → List Declaration
 names r around node =
     filter (is_own r around) (declarations node (record { part = own_part r; stays = not (is_ambient r) }) ++ vars_of r (not (is_ambient r)) node)
+
+-- ---- what a scope declares for one child
+
+-- a node as the child at an index sees it: of the members of an enum it sees those before it
+--   enum E { A, B = A, C = D, D }   // B sees A, and C sees A and B
+abbrev pub seen_by : Role → ℕ → Node → Node
+seen_by r i node = cond (is_members r) (node_of (out-Node node).span (out-Node node).kind (take i (out-Node node).children)) node
+
+-- what the scope that a node opens declares for the child at an index
+abbrev pub names_for : Role → (List ℕ → Option Bool) → Node → ℕ → List Declaration
+names_for r around node i = names r around (seen_by r i node)
+
+-- ---- enums that merge
+
+abbrev exported_by : Kind → List Node → Option Node
+exported_by kind.ExportDecl children = slice_get children 0
+exported_by _ children = None
+
+abbrev exported_in : Node → Option Node
+exported_in item = exported_by (out-Node item).kind (out-Node item).children
+
+abbrev or_else : Option Node → Option Node → Option Node
+or_else (Some node) other = Some node
+or_else None other = other
+
+abbrev pub is_enum : Kind → Bool
+is_enum (kind.TsEnumDecl declare is_const) = true
+is_enum _ = false
+
+abbrev if_part : Node → Option Node
+if_part node = cond (is_enum (out-Node node).kind) (Some node) None
+
+abbrev part_node : Node → Option Node
+part_node item = or_else (if_part item) (option_and_then if_part (exported_in item))
+
+abbrev enum_name : Node → Option (List ℕ)
+enum_name node = option_map (λ ident. ident.sym) (option_and_then ident_of (slice_get (out-Node node).children 0))
+
+-- the text of the name of the enum that an item is a part of, with or without `export` before it
+abbrev pub part_of : Node → Option (List ℕ)
+part_of item = option_and_then enum_name (part_node item)
+
+abbrev pub is_part_of : List ℕ → Node → Bool
+is_part_of text item = option_map_or (bytes_eq text) (part_of item) false
+
+abbrev declares_ambient : Kind → Bool
+declares_ambient (kind.TsEnumDecl declare is_const) = declare
+declares_ambient _ = false
+
+abbrev members_by : Bool → Node → List Declaration
+members_by ambient node =
+    option_map_or (names (role.Members (declares_ambient (out-Node node).kind || ambient)) (λ sym. None)) (slice_get (out-Node node).children 1) []
+
+-- the members of an item that is a part of an enum, in a list that is ambient or is not
+abbrev pub members_of : Bool → Node → List Declaration
+members_of ambient item = option_map_or (members_by ambient) (part_node item) []

@@ -21,7 +21,13 @@ at_child r wanted i = if i == wanted then r else role.Plain
 
 abbrev pub is_ambient : Role → Bool
 is_ambient role.Ambient = true
+is_ambient (role.Members ambient) = ambient
 is_ambient _ = false
+
+-- the members of an enum
+abbrev pub is_members : Role → Bool
+is_members (role.Members ambient) = true
+is_members _ = false
 
 abbrev pub keeps_name : Role → Role
 keeps_name role.Sourced = role.Name
@@ -69,6 +75,8 @@ role_by r kind.ExportDecl sourced i = passes_ambient (is_ambient r)
 role_by r (kind.TsModuleDecl declare global) sourced i = passes_ambient (declare || is_ambient r)
 role_by r (kind.TsNamespaceDecl declare global) sourced i = passes_ambient (declare || is_ambient r)
 role_by r kind.TsModuleBlock sourced i = passes_ambient (is_ambient r)
+role_by r (kind.TsEnumDecl declare is_const) sourced i = at_child (role.Members (declare || is_ambient r)) 1 i
+role_by r kind.TsEnumMember sourced i = at_child role.MemberName 0 i
 role_by r _ sourced i = role.Plain
 
 abbrev pub role_in : Role → Node → ℕ → Role
@@ -98,19 +106,19 @@ opens_by r kind.SetterProp named = true
 opens_by r kind.FnExpr named = named && not (is_default r)
 opens_by r kind.ClassExpr named = true
 opens_by r (kind.ClassDecl declare) named = true
-opens_by r (kind.TsEnumDecl declare is_const) named = true
 opens_by r kind.BlockStmt named = true
 opens_by r kind.SwitchStmt named = true
 opens_by r kind.ForStmt named = true
 opens_by r kind.ForInStmt named = true
 opens_by r (kind.ForOfStmt is_await) named = true
 opens_by r kind.CatchClause named = true
+opens_by r kind.List named = is_members r
 opens_by r _ named = false
 
 abbrev pub opens : Role → Node → Bool
 opens r node = opens_by r (out-Node node).kind (is_there (out-Node node).children 0)
 
--- whether the child at an index stands in the scope that its parent opens: a key does not, nor what `switch` looks at, nor the name of a declared class or enum
+-- whether the child at an index stands in the scope that its parent opens: a key does not, nor what `switch` looks at, nor the name of a declared class
 --   switch (a) { case a: let a; }   // the first a is another
 --   ({ get [b]() { var b; return b; } });   // so is the first b
 unfoldable pub covers : Role → Kind → ℕ → Bool
@@ -118,6 +126,5 @@ covers r kind.GetterProp i = not (i == 0)
 covers r kind.SetterProp i = not (i == 0)
 covers r kind.SwitchStmt i = not (i == 0)
 covers r (kind.ClassDecl declare) i = not (i == 0)
-covers r (kind.TsEnumDecl declare is_const) i = not (i == 0)
 covers r kind.ClassExpr i = not (is_default r && i == 0)
 covers r _ i = true

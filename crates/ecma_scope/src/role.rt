@@ -26,6 +26,10 @@ pub enum Role {
     Default,
     /// What stands in an ambient namespace.
     Ambient,
+    /// The members of an enum, which opens a scope: each member sees those before it.
+    Members { ambient: bool },
+    /// The name of a member, which is a name of that scope.
+    MemberName,
 }
 
 /// Whether the child at an index is there.
