@@ -7,7 +7,7 @@
 // tree, where it has types or assignments, `commonJs` says that the module is one of CommonJS, and `unfold` names definitions by which the fact computes.
 import { writeFileSync } from "node:fs";
 import { observe, answerText, actionText, listText, valueText } from "./host.mjs";
-import { itemsOf } from "./trees.mjs";
+import { enumsOf, itemsOf } from "./trees.mjs";
 import { topics } from "./table.mjs";
 
 const folder = new URL("../crates/ecma_runs/proofs/", import.meta.url);
@@ -41,10 +41,17 @@ const modules = [
   [
     "ecma_runs.proofs.Trees",
     "End ◌▸◌ tree absent list ident key computed binding whole truth string null type' this' super' member super_member call new' assign unary binary parens array object property " +
-      "statement block returns declare_pattern declare parameter function declare_function function_expression arrow modifiers class_method field constructor' class' declare_class meaning_node",
+      "statement block returns declare_pattern declare parameter function declare_function function_expression arrow modifiers class_method field constructor' class' declare_class node meaning_node",
   ],
   ["ecma_runs.proofs.ExportTrees", "exports_node"],
-  ["ecma_runs.proofs.Scripts", "Does DoesInCommonJs nulls"],
+  ["ecma_enums.specs.declared.value.TsEnumRecordValue.TheVariants", "as enum_value"],
+  ["ecma_enums.specs.Walks", "walked walk_by"],
+  ["ecma_enums.specs.Folding", "folding value_by"],
+  ["ecma_enums.specs.Names", "name_under name_by"],
+  ["ecma_enums.specs.Keys", "key_under key_by"],
+  ["ecma_tree.specs.declared.node.Node", "fold-roll-Node"],
+  ["ecma_tree.specs.declared.node.Node.TheViews", "out-roll-Node"],
+  ["ecma_runs.proofs.Scripts", "Does DoesInCommonJs does does_known nulls"],
   ["std.specs.Fmt", "digits"],
   ["std.specs.Str", "chars"],
   ["ecma_number.specs.Arithmetic", "product_of quotient_of remainder_of power_of"],
@@ -56,7 +63,7 @@ const modules = [
 /** The `use` lines of a file of facts: what its text names. */
 function uses(text) {
   const words = new Set(text.replace(/"(?:[^"\\]|\\.)*"/g, "").replace(/^--.*$/gm, "").match(/[\p{L}_][\p{L}\p{N}_']*(?![\p{L}\p{N}_'.])/gu));
-  const has = (name) => ["◌▸◌", "[]", "◌∷◌"].includes(name) || words.has(name);
+  const has = (name) => ["◌▸◌", "[]", "◌∷◌"].includes(name) || words.has(name) || (name.includes("-") && text.includes(name));
   const lines = [];
   for (const [module, names] of modules) {
     if (names.startsWith("as ")) {
@@ -71,7 +78,8 @@ function uses(text) {
 }
 
 let count = 0;
-for (const { file, title, facts } of topics) {
+for (const { file, title, facts, later } of topics) {
+  if (later) continue;
   let text = "";
   for (const [name, source, options = {}] of facts) {
     const open = file.startsWith("FactsOpen");
@@ -81,11 +89,14 @@ for (const { file, title, facts } of topics) {
     const seen = await observe({ body: before ?? source, answers: answers ?? nulls, actions, frees: commonJs ? commonJsFrees : frees, imports, metaUrl });
     const events = seen.events === "[]" ? "[]" : seen.events;
     const items = itemsOf(tree ?? source);
+    const known = enumsOf(tree ?? source);
     text += source.trim().split("\n").map((line) => `-- ${line}\n`).join("");
     text += `${name} :\n    ${commonJs ? "DoesInCommonJs" : "Does"} ${turns} ${answers ? `(${listText(answers.map(answerText))})` : "nulls"} ${actions.length ? `(${listText(actions.map(actionText))})` : "[]"}\n`;
     text += `    (${[...items, "End"].join("\n    ▸ ")})\n`;
     text += `    ${events} (${ending ? `ending.${ending}` : seen.ending})\n`;
-    text += `${unfold ? `unfolding ${unfold}\n` : ""}${name} = simp ${actions.some(([kind]) => kind === "ReadExport") ? "(meaning_node, exports_node)" : "meaning_node"} refl\n\n`;
+    const simp = `simp ${known ? "(meaning_node, exports_node, fold-roll-Node, out-roll-Node)" : actions.some(([kind]) => kind === "ReadExport") ? "(meaning_node, exports_node)" : "meaning_node"}`;
+    const unfolded = [unfold, known && "node walked walk_by folding value_by name_under name_by key_under key_by"].filter(Boolean).join(" ");
+    text += `${unfolded ? `unfolding ${unfolded}\n` : ""}${name} = ${known ? `does_known ${known} (${simp} refl)` : "does refl"} (${simp} refl)\n\n`;
     count += 1;
   }
   const head = `-- ${title}: each fact is a small module and what node observes of it, by computing. Written by compare/facts.mjs.`;

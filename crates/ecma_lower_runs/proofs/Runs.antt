@@ -11,12 +11,15 @@ use Rattle.ecma_tree.specs.Sorted.{HasSort}
 use Rattle.ecma_tree.specs.declared.node.Node.{Node}
 use Rattle.ecma_runs.specs.declared.script.Script.{Script}
 use Rattle.ecma_runs.specs.Declarations.{all_declared, all_exports, all_last_declared, all_lexicals, all_vars}
-use Rattle.ecma_runs.specs.Environment.{ToFree, ToVariable, ids_of, is_among, new_environment}
+use Rattle.ecma_runs.specs.Environment.{ToFree, ToVariable, filled, ids_of, is_among, new_environment, resolved}
 use Rattle.ecma_runs.specs.Evaluation.{meaning, meaning_by}
 use Rattle.ecma_runs.specs.Exports.{Exported}
+use Rattle.ecma_runs.specs.Expressions.{named}
+use Rattle.ecma_runs.proofs.Names.{ids_of-filled}
 use Rattle.ecma_runs.specs.Host.{provided_by}
-use Rattle.ecma_runs.specs.Meaning.{ExecutionContext, Meaning}
-use Rattle.ecma_runs.specs.Observation.{module_activation, module_context, observe, observed, run_actions, shown_to_host, start}
+use Rattle.ecma_runs.specs.Meaning.{ExecutionContext, Known, Meaning}
+use Rattle.ecma_runs.specs.Enums.{enum_of, is_hidden, no_enums}
+use Rattle.ecma_runs.specs.Observation.{enums_of, known_of, module_activation, module_context, observe, observed, run_actions, shown_to_host, start}
 use Rattle.ecma_runs.specs.Run.{◌>>=◌, give, outside, when}
 use Rattle.ecma_runs.specs.State.{Binding, Entered, Id, default_name, same_id}
 use Rattle.ecma_runs.specs.Statements.{all_completions, all_hoisted, all_last}
@@ -41,31 +44,33 @@ use Rattle.ecma_lower_runs.proofs.Sequences.{IsItem, Shifts, Step, gather, lists
 -- ---- what is observed of a module is observed of what these are, in the context of its run
 
 module _ (turns : ℕ) (options : Config) (script : Script) where
-  abbrev context : List Id → Entered → ExecutionContext
-  context ids place = module_context (provided_by script) (record { declared = ids }) place
+  abbrev context : Known → Entered → ExecutionContext
+  context known place = module_context (provided_by script) known place
 
   -- the context of the run of a module
   abbrev pub at_run : Node → ExecutionContext
-  at_run n = context (meaning n).declared (record { place = 0; ids = ids_of (meaning n).locals })
+  at_run n = context (known_of options n) (record { place = 0; ids = ids_of (map filled (meaning n).locals) })
 
   pub record RunsAt (n m : Node) : Type 0 where
     pub locals : (meaning m).locals ≡ (meaning n).locals
     pub declared : (meaning m).declared ≡ (meaning n).declared
+    pub enums : enums_of options m ≡ enums_of options n
     pub exports : (meaning m).exports None ≡ (meaning n).exports None
     pub hoisted : (meaning m).hoisted (at_run n) ≡ (meaning n).hoisted (at_run n)
     pub completion : (meaning m).completion (at_run n) ≡ (meaning n).completion (at_run n)
 
   pub observed-at : (n m : Node) → RunsAt n m → observe turns options m script ≡ observe turns options n script
   observed-at n m same =
-      (λ i. observed
-      ((new_environment (same.locals i) (Some module_activation) >>= λ place.
-      shown_to_host ((meaning m).hoisted (context (same.declared i) place) >>= λ _. (meaning m).completion (context (same.declared i) place) >>= λ _. give Undefined) >>= λ outcome.
-      run_actions (context (same.declared i) place) (same.exports i) script.actions outcome)
+      (λ i. let known : Known = record { declared = same.declared i; enums = same.enums i } in
+      observed
+      ((new_environment (map filled (same.locals i)) (Some module_activation) >>= λ place.
+      shown_to_host ((meaning m).hoisted (context known place) >>= λ _. (meaning m).completion (context known place) >>= λ _. give Undefined) >>= λ outcome.
+      run_actions (context known place) (same.exports i) script.actions outcome)
       (start turns script)))
       ∙ (λ i. observed
       ((shown_to_host (same.hoisted i >>= λ _. same.completion i >>= λ _. give Undefined) >>= λ outcome.
       run_actions (at_run n) ((meaning n).exports None) script.actions outcome)
-      (record (start turns script) { environments = record { bindings = (meaning n).locals; activation = Some module_activation } ∷ [] })))
+      (record (start turns script) { environments = record { bindings = map filled (meaning n).locals; activation = Some module_activation } ∷ [] })))
 
 -- ---- names that are free there
 
@@ -103,11 +108,23 @@ module _ (free : ℕ) (text : List ℕ) where
       by false e = refl
 
   module _ (turns : ℕ) (options : Config) (script : Script) (tree : Node) (sorted : HasSort sort.Module tree) (none : DeclaresNone free tree) where
-    pub free-there : same_id default_name id ≡ false → IsFree free (at_run turns options script tree) text
+    abbrev there : ExecutionContext
+    there = at_run turns options script tree
+
+    -- no name of a member has this context, nor has that of an enum
+    no-member : enum_of id there.known.enums.names ≡ None
+    no-member = ?
+
+    not-hidden : is_hidden there.known.enums id ≡ false
+    not-hidden = ?
+
+    pub free-there : same_id default_name id ≡ false → IsFree free there text
     free-there h =
         let declared = none-among (meaning tree).declared none in
         let local = not-among (ids_of (meaning tree).locals) (or_default (meaning tree).declared) (locals-declared tree sorted) (none-default h (meaning tree).declared declared) in
-        λ i. when (local i) (give (ToVariable 0 id)) (when (declared i) outside (give (ToFree text)))
+        let outer = ap (is_among id) (ids_of-filled (meaning tree).locals) ∙ local in
+        (λ i. named (no-member i) id there) ∙ (λ i. when (not-hidden i) outside (resolved there.scope there.known.declared id))
+        ∙ (λ i. when (outer i) (give (ToVariable 0 id)) (when (declared i) outside (give (ToFree text))))
 
 -- ---- a module, by what is made of its items
 
@@ -257,6 +274,7 @@ module _ (span : Span) (shebang : Option (List ℕ)) (place : Span) where
           locals-whole written ∙ ap₂ (λ (a b : List Binding). a ++ b) (vars-same here free names frees ns h) (lexicals-same here free names frees ns h)
           ∙ sym (locals-whole ns);
       declared = whole-declares here free names frees ns h;
+      enums = ?;
       exports = exports-whole written ∙ exports-same here free names frees ns h ∙ sym (exports-whole ns);
       hoisted = hoisted-whole here written ∙ hoisted-same here free names frees ns h ∙ sym (hoisted-whole here ns);
       completion = completion-whole here written ∙ completion-same here free names frees ns h ∙ sym (completion-whole here ns);
@@ -295,7 +313,7 @@ bare = record {
   functions = record { invoke = λ function how arguments. outside; fields = λ function object. outside };
   scope = [];
   provided = record { imports = []; frees = []; meta_url = [] };
-  known = record { declared = [] };
+  known = record { declared = []; enums = no_enums false };
 }
 
 pub lowered_trees_declare_alike : LoweredTreesDeclareAlike

@@ -71,6 +71,7 @@ module _ (gone : Id → Bool) (known : Known) where
     targets = λ v w. give_alike (at c _) tt;
     parameters = λ arguments w. give_alike (at c _) arguments;
     completion = λ w. does _ w;
+    member = λ has leaves_out ids w. give_alike (at c _) tt;
     varied = λ w. varies _ w;
     hoisted = λ w. hoists _ w;
     last = λ w. give_alike (at c _) tt;
@@ -85,6 +86,7 @@ module _ (gone : Id → Bool) (known : Known) where
     declared = d;
     last_declared = refl;
     imported = i;
+    member_texts = λ has. refl;
     exports = λ source. ap (changed_exports (names_left gone)) (e source);
     cooked = refl;
     is_plain = refl;

@@ -11,7 +11,7 @@ use Rattle.ecma_runs.specs.declared.observation.Ending.TheVariants as ending
 use Rattle.ecma_runs.specs.declared.shown.ErrorKind.TheVariants as error
 use Rattle.ecma_runs.specs.declared.shown.Shown.TheVariants as shown
 use Rattle.ecma_runs.proofs.Trees.{End, ◌▸◌, tree, absent, list, ident, key, binding, whole, string, type', this', call, new', unary, binary, statement, block, declare, parameter, function, declare_function, modifiers, constructor', declare_class, meaning_node}
-use Rattle.ecma_runs.proofs.Scripts.{Does, nulls}
+use Rattle.ecma_runs.proofs.Scripts.{Does, does, nulls}
 
 -- f(1);
 has_no_effect_of_types_alone :
@@ -27,7 +27,7 @@ has_no_effect_of_types_alone :
     ▸ statement (call (ident (codes "f")) (whole 1 ▸ End))
     ▸ End)
     (HostCall 7 shown.Undefined (shown.Num (js_number.Whole (pos 1)) ∷ []) ∷ []) (ending.Done [])
-has_no_effect_of_types_alone = simp meaning_node refl
+has_no_effect_of_types_alone = does refl (simp meaning_node refl)
 
 -- f(typeof h);
 has_no_effect_of_such_items_in_namespaces :
@@ -37,7 +37,7 @@ has_no_effect_of_such_items_in_namespaces :
     ▸ statement (call (ident (codes "f")) (unary unary.TypeOf (ident (codes "h")) ▸ End))
     ▸ End)
     (HostCall 7 shown.Undefined (shown.Text (codes "undefined") ∷ []) ∷ []) (ending.Done [])
-has_no_effect_of_such_items_in_namespaces = simp meaning_node refl
+has_no_effect_of_such_items_in_namespaces = does refl (simp meaning_node refl)
 
 -- class A { constructor() { f(1); } } new A();
 has_no_private_members_without_effect :
@@ -46,7 +46,7 @@ has_no_private_members_without_effect :
     ▸ statement (new' (ident (codes "A")) End)
     ▸ End)
     (HostCall 7 shown.Undefined (shown.Num (js_number.Whole (pos 1)) ∷ []) ∷ []) (ending.Done [])
-has_no_private_members_without_effect = simp meaning_node refl
+has_no_private_members_without_effect = does refl (simp meaning_node refl)
 
 -- class A { constructor() { f("x" in this); } } new A();
 has_no_abstract_methods :
@@ -55,7 +55,7 @@ has_no_abstract_methods :
     ▸ statement (new' (ident (codes "A")) End)
     ▸ End)
     (HostCall 7 shown.Undefined (shown.Bool false ∷ []) ∷ []) (ending.Done [])
-has_no_abstract_methods = simp meaning_node refl
+has_no_abstract_methods = does refl (simp meaning_node refl)
 
 -- class A { constructor(a = x, x) {} } new A();
 reads_no_later_parameter_property :
@@ -64,7 +64,7 @@ reads_no_later_parameter_property :
     ▸ statement (new' (ident (codes "A")) End)
     ▸ End)
     [] (ending.Thrown (shown.Error error.Reference))
-reads_no_later_parameter_property = simp meaning_node refl
+reads_no_later_parameter_property = does refl (simp meaning_node refl)
 
 -- (function () { f(this); })(); f(1);
 runs_blocks_with_types_in_them :
@@ -73,7 +73,7 @@ runs_blocks_with_types_in_them :
     ▸ statement (call (ident (codes "f")) (whole 1 ▸ End))
     ▸ End)
     (HostCall 7 shown.Undefined (shown.Undefined ∷ []) ∷ HostCall 7 shown.Undefined (shown.Num (js_number.Whole (pos 1)) ∷ []) ∷ []) (ending.Done [])
-runs_blocks_with_types_in_them = simp meaning_node refl
+runs_blocks_with_types_in_them = does refl (simp meaning_node refl)
 
 -- function h(a) { var a; f(a); } h(1);
 has_plain_parameters_behind_this :
@@ -82,4 +82,4 @@ has_plain_parameters_behind_this :
     ▸ statement (call (ident (codes "h")) (whole 1 ▸ End))
     ▸ End)
     (HostCall 7 shown.Undefined (shown.Num (js_number.Whole (pos 1)) ∷ []) ∷ []) (ending.Done [])
-has_plain_parameters_behind_this = simp meaning_node refl
+has_plain_parameters_behind_this = does refl (simp meaning_node refl)

@@ -14,7 +14,7 @@ use Rattle.ecma_runs.specs.declared.shown.ErrorKind.TheVariants as error
 use Rattle.ecma_runs.specs.declared.shown.Shown.TheVariants as shown
 use Rattle.ecma_runs.proofs.Trees.{End, ◌▸◌, tree, absent, list, ident, key, binding, whole, string, this', member, call, new', assign, binary, object, statement, block, returns, declare, parameter, function, declare_function, function_expression, class_method, constructor', class', meaning_node}
 use Rattle.ecma_runs.proofs.ExportTrees.{exports_node}
-use Rattle.ecma_runs.proofs.Scripts.{Does, nulls}
+use Rattle.ecma_runs.proofs.Scripts.{Does, does, nulls}
 
 -- let x = f(1); g(x);
 declares_what_the_host_answers :
@@ -23,7 +23,7 @@ declares_what_the_host_answers :
     ▸ statement (call (ident (codes "g")) (ident (codes "x") ▸ End))
     ▸ End)
     (HostCall 7 shown.Undefined (shown.Num (js_number.Whole (pos 1)) ∷ []) ∷ HostCall 8 shown.Undefined (shown.Num (js_number.Whole (pos 3)) ∷ []) ∷ []) (ending.Done [])
-declares_what_the_host_answers = simp meaning_node refl
+declares_what_the_host_answers = does refl (simp meaning_node refl)
 
 -- let a = x;
 reads_a_free_name_without_value :
@@ -31,7 +31,7 @@ reads_a_free_name_without_value :
     (declare Let (codes "a") (ident (codes "x"))
     ▸ End)
     [] (ending.Thrown (shown.Error error.Reference))
-reads_a_free_name_without_value = simp meaning_node refl
+reads_a_free_name_without_value = does refl (simp meaning_node refl)
 
 -- const a = 1; f(a); a = 2;
 writes_a_constant :
@@ -41,7 +41,7 @@ writes_a_constant :
     ▸ statement (assign (ident (codes "a")) (whole 2))
     ▸ End)
     (HostCall 7 shown.Undefined (shown.Num (js_number.Whole (pos 1)) ∷ []) ∷ []) (ending.Thrown (shown.Error error.Kind))
-writes_a_constant = simp meaning_node refl
+writes_a_constant = does refl (simp meaning_node refl)
 
 -- { f(1); x; let x = 2; }
 reads_before_the_declaration :
@@ -49,7 +49,7 @@ reads_before_the_declaration :
     (block (statement (call (ident (codes "f")) (whole 1 ▸ End)) ▸ statement (ident (codes "x")) ▸ declare Let (codes "x") (whole 2) ▸ End)
     ▸ End)
     (HostCall 7 shown.Undefined (shown.Num (js_number.Whole (pos 1)) ∷ []) ∷ []) (ending.Thrown (shown.Error error.Reference))
-reads_before_the_declaration = simp meaning_node refl
+reads_before_the_declaration = does refl (simp meaning_node refl)
 
 -- let x = 1; { let x = 2; function h() { x = 3; f(x); } h(); } f(x);
 has_scopes :
@@ -59,7 +59,7 @@ has_scopes :
     ▸ statement (call (ident (codes "f")) (ident (codes "x") ▸ End))
     ▸ End)
     (HostCall 7 shown.Undefined (shown.Num (js_number.Whole (pos 3)) ∷ []) ∷ HostCall 7 shown.Undefined (shown.Num (js_number.Whole (pos 1)) ∷ []) ∷ []) (ending.Done [])
-has_scopes = simp meaning_node refl
+has_scopes = does refl (simp meaning_node refl)
 
 -- f(h()); f(x); var x = 2; f(x); function h() { return 1; }
 hoists_functions_and_var :
@@ -71,7 +71,7 @@ hoists_functions_and_var :
     ▸ declare_function (codes "h") End (returns (whole 1) ▸ End)
     ▸ End)
     (HostCall 7 shown.Undefined (shown.Num (js_number.Whole (pos 1)) ∷ []) ∷ HostCall 7 shown.Undefined (shown.Undefined ∷ []) ∷ HostCall 7 shown.Undefined (shown.Num (js_number.Whole (pos 2)) ∷ []) ∷ []) (ending.Done [])
-hoists_functions_and_var = simp meaning_node refl
+hoists_functions_and_var = does refl (simp meaning_node refl)
 
 -- f.a(1)("t");
 calls_a_member_with_its_object_as_this :
@@ -79,7 +79,7 @@ calls_a_member_with_its_object_as_this :
     (statement (call (call (member (ident (codes "f")) (codes "a")) (whole 1 ▸ End)) (string (codes "t") ▸ End))
     ▸ End)
     (HostGet 7 (codes "a") ∷ HostCall 9 (shown.Host 7) (shown.Num (js_number.Whole (pos 1)) ∷ []) ∷ HostCall 10 shown.Undefined (shown.Text (codes "t") ∷ []) ∷ []) (ending.Done [])
-calls_a_member_with_its_object_as_this = simp meaning_node refl
+calls_a_member_with_its_object_as_this = does refl (simp meaning_node refl)
 
 -- f.a = 1; new f(f.b);
 sets_gets_and_constructs_host_values :
@@ -88,7 +88,7 @@ sets_gets_and_constructs_host_values :
     ▸ statement (new' (ident (codes "f")) (member (ident (codes "f")) (codes "b") ▸ End))
     ▸ End)
     (HostSet 7 (codes "a") (shown.Num (js_number.Whole (pos 1))) ∷ HostGet 7 (codes "b") ∷ HostNew 7 (shown.Num (js_number.Whole (pos 2)) ∷ []) ∷ []) (ending.Done [])
-sets_gets_and_constructs_host_values = simp meaning_node refl
+sets_gets_and_constructs_host_values = does refl (simp meaning_node refl)
 
 -- try { f(1); } catch (e) { g(e); } f(2);
 throws_what_the_host_throws :
@@ -97,7 +97,7 @@ throws_what_the_host_throws :
     ▸ statement (call (ident (codes "f")) (whole 2 ▸ End))
     ▸ End)
     (HostCall 7 shown.Undefined (shown.Num (js_number.Whole (pos 1)) ∷ []) ∷ HostCall 8 shown.Undefined (shown.Text (codes "no") ∷ []) ∷ HostCall 7 shown.Undefined (shown.Num (js_number.Whole (pos 2)) ∷ []) ∷ []) (ending.Thrown (shown.Error error.Range))
-throws_what_the_host_throws = simp meaning_node refl
+throws_what_the_host_throws = does refl (simp meaning_node refl)
 
 -- f(1); f(2);
 has_no_answer_left :
@@ -106,7 +106,7 @@ has_no_answer_left :
     ▸ statement (call (ident (codes "f")) (whole 2 ▸ End))
     ▸ End)
     (HostCall 7 shown.Undefined (shown.Num (js_number.Whole (pos 1)) ∷ []) ∷ HostCall 7 shown.Undefined (shown.Num (js_number.Whole (pos 2)) ∷ []) ∷ []) (ending.AnswersSpent)
-has_no_answer_left = simp meaning_node refl
+has_no_answer_left = does refl (simp meaning_node refl)
 
 -- import d, { a, a as b } from "m"; f(a); d(b);
 imports_at_their_use :
@@ -116,7 +116,7 @@ imports_at_their_use :
     ▸ statement (call (ident (codes "d")) (ident (codes "b") ▸ End))
     ▸ End)
     (HostCall 7 shown.Undefined (shown.Num (js_number.Whole (pos 5)) ∷ []) ∷ HostCall 9 shown.Undefined (shown.Num (js_number.Whole (pos 5)) ∷ []) ∷ []) (ending.Done [])
-imports_at_their_use = simp meaning_node refl
+imports_at_their_use = does refl (simp meaning_node refl)
 
 -- f(import.meta.url);
 knows_its_own_place :
@@ -124,7 +124,7 @@ knows_its_own_place :
     (statement (call (ident (codes "f")) (member (tree (kind.MetaPropExpr ImportMeta) End) (codes "url") ▸ End))
     ▸ End)
     (HostCall 7 shown.Undefined (shown.Text (codes "file:///m.js") ∷ []) ∷ []) (ending.Done [])
-knows_its_own_place = simp meaning_node refl
+knows_its_own_place = does refl (simp meaning_node refl)
 
 -- f(undefined, NaN, Infinity);
 has_the_fixed_names :
@@ -132,7 +132,7 @@ has_the_fixed_names :
     (statement (call (ident (codes "f")) (ident (codes "undefined") ▸ ident (codes "NaN") ▸ ident (codes "Infinity") ▸ End))
     ▸ End)
     (HostCall 7 shown.Undefined (shown.Undefined ∷ shown.Num (js_number.NaN) ∷ shown.Num (js_number.Infinity) ∷ []) ∷ []) (ending.Done [])
-has_the_fixed_names = simp meaning_node refl
+has_the_fixed_names = does refl (simp meaning_node refl)
 
 -- f({ m() { f(this.c); } });
 shows_objects_to_the_host :
@@ -140,7 +140,7 @@ shows_objects_to_the_host :
     (statement (call (ident (codes "f")) (object (tree kind.MethodProp (key (codes "m") ▸ function End (statement (call (ident (codes "f")) (member this' (codes "c") ▸ End)) ▸ End) ▸ End) ▸ End) ▸ End))
     ▸ End)
     (HostCall 7 shown.Undefined (shown.Handle 0 ∷ []) ∷ HostCall 7 shown.Undefined (shown.Num (js_number.Whole (pos 8)) ∷ []) ∷ []) (ending.Done (Return shown.Undefined ∷ Return (shown.Handle 1) ∷ Return shown.Undefined ∷ []))
-shows_objects_to_the_host = simp meaning_node refl
+shows_objects_to_the_host = does refl (simp meaning_node refl)
 
 -- f(class { constructor(a) { this.a = a; } get b() { throw this.a; } });
 shows_classes_to_the_host :
@@ -148,7 +148,7 @@ shows_classes_to_the_host :
     (statement (call (ident (codes "f")) (tree kind.ClassExpr (absent ▸ class' absent (constructor' (parameter (binding (codes "a")) ▸ End) (statement (assign (member this' (codes "a")) (ident (codes "a"))) ▸ End) ▸ class_method method.Getter false (key (codes "b")) End (tree kind.ThrowStmt (member this' (codes "a") ▸ End) ▸ End) ▸ End) ▸ End) ▸ End))
     ▸ End)
     (HostCall 7 shown.Undefined (shown.Handle 0 ∷ []) ∷ []) (ending.Done (Return (shown.Handle 1) ∷ Return (shown.Num (js_number.Whole (pos 4))) ∷ Throw (shown.Num (js_number.Whole (pos 4))) ∷ Throw (shown.Error error.Kind) ∷ Return shown.Undefined ∷ []))
-shows_classes_to_the_host = simp (meaning_node, exports_node) refl
+shows_classes_to_the_host = does refl (simp (meaning_node, exports_node) refl)
 
 -- let o = {}; let p = {}; f(p, o); f(o, p);
 numbers_handles_in_the_order_of_showing :
@@ -159,7 +159,7 @@ numbers_handles_in_the_order_of_showing :
     ▸ statement (call (ident (codes "f")) (ident (codes "o") ▸ ident (codes "p") ▸ End))
     ▸ End)
     (HostCall 7 shown.Undefined (shown.Handle 0 ∷ shown.Handle 1 ∷ []) ∷ HostCall 7 shown.Undefined (shown.Handle 1 ∷ shown.Handle 0 ∷ []) ∷ []) (ending.Done [])
-numbers_handles_in_the_order_of_showing = simp meaning_node refl
+numbers_handles_in_the_order_of_showing = does refl (simp meaning_node refl)
 
 -- let h = function k(n) { f(n); k === h && n < 2 && k(n + 1); }; h(1);
 has_a_name_of_its_own :
@@ -168,7 +168,7 @@ has_a_name_of_its_own :
     ▸ statement (call (ident (codes "h")) (whole 1 ▸ End))
     ▸ End)
     (HostCall 7 shown.Undefined (shown.Num (js_number.Whole (pos 1)) ∷ []) ∷ HostCall 7 shown.Undefined (shown.Num (js_number.Whole (pos 2)) ∷ []) ∷ []) (ending.Done [])
-has_a_name_of_its_own = simp meaning_node refl
+has_a_name_of_its_own = does refl (simp meaning_node refl)
 
 -- let h = function k() { k = 1; }; h();
 does_not_write_its_own_name :
@@ -177,7 +177,7 @@ does_not_write_its_own_name :
     ▸ statement (call (ident (codes "h")) End)
     ▸ End)
     [] (ending.Thrown (shown.Error error.Kind))
-does_not_write_its_own_name = simp meaning_node refl
+does_not_write_its_own_name = does refl (simp meaning_node refl)
 
 -- function h() { var a; function a() { return 1; } function a() { return 2; } f(a()); } h();
 takes_the_last_of_two_functions :
@@ -186,7 +186,7 @@ takes_the_last_of_two_functions :
     ▸ statement (call (ident (codes "h")) End)
     ▸ End)
     (HostCall 7 shown.Undefined (shown.Num (js_number.Whole (pos 2)) ∷ []) ∷ []) (ending.Done [])
-takes_the_last_of_two_functions = simp meaning_node refl
+takes_the_last_of_two_functions = does refl (simp meaning_node refl)
 
 -- throw f(1);
 throws_an_error_where_the_host_gives_one :
@@ -194,4 +194,4 @@ throws_an_error_where_the_host_gives_one :
     (tree kind.ThrowStmt (call (ident (codes "f")) (whole 1 ▸ End) ▸ End)
     ▸ End)
     (HostCall 7 shown.Undefined (shown.Num (js_number.Whole (pos 1)) ∷ []) ∷ []) (ending.Thrown (shown.Error error.Range))
-throws_an_error_where_the_host_gives_one = simp meaning_node refl
+throws_an_error_where_the_host_gives_one = does refl (simp meaning_node refl)

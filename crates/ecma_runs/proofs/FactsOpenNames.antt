@@ -8,7 +8,7 @@ use Rattle.ecma_runs.specs.declared.observation.Event.TheVariants.{HostCall}
 use Rattle.ecma_runs.specs.declared.observation.Ending.TheVariants as ending
 use Rattle.ecma_runs.specs.declared.shown.Shown.TheVariants as shown
 use Rattle.ecma_runs.proofs.Trees.{End, ◌▸◌, tree, absent, list, ident, key, computed, binding, whole, string, call, parens, array, object, statement, block, declare_pattern, declare, parameter, declare_function, function_expression, arrow, class_method, class', declare_class, meaning_node}
-use Rattle.ecma_runs.proofs.Scripts.{Does, nulls}
+use Rattle.ecma_runs.proofs.Scripts.{Does, does, nulls}
 
 -- (function (x) {}); f(1); x;
 names_of_parameters_outside :
@@ -18,7 +18,7 @@ names_of_parameters_outside :
     ▸ statement (ident (codes "x"))
     ▸ End)
     (HostCall 7 shown.Undefined (shown.Num (js_number.Whole (pos 1)) ∷ []) ∷ []) (ending.Outside)
-names_of_parameters_outside = simp meaning_node refl
+names_of_parameters_outside = does refl (simp meaning_node refl)
 
 -- (function ({ a: { x = 1 } }) {}); f(1); x;
 names_of_patterns_in_parameters_outside :
@@ -28,7 +28,7 @@ names_of_patterns_in_parameters_outside :
     ▸ statement (ident (codes "x"))
     ▸ End)
     (HostCall 7 shown.Undefined (shown.Num (js_number.Whole (pos 1)) ∷ []) ∷ []) (ending.Outside)
-names_of_patterns_in_parameters_outside = simp meaning_node refl
+names_of_patterns_in_parameters_outside = does refl (simp meaning_node refl)
 
 -- (function (a = function x() {}) {}); f(1); x;
 names_in_defaults_of_parameters_outside :
@@ -38,7 +38,7 @@ names_in_defaults_of_parameters_outside :
     ▸ statement (ident (codes "x"))
     ▸ End)
     (HostCall 7 shown.Undefined (shown.Num (js_number.Whole (pos 1)) ∷ []) ∷ []) (ending.Outside)
-names_in_defaults_of_parameters_outside = simp meaning_node refl
+names_in_defaults_of_parameters_outside = does refl (simp meaning_node refl)
 
 -- ((x) => 1); f(1); x;
 names_of_parameters_of_arrows_outside :
@@ -48,7 +48,7 @@ names_of_parameters_of_arrows_outside :
     ▸ statement (ident (codes "x"))
     ▸ End)
     (HostCall 7 shown.Undefined (shown.Num (js_number.Whole (pos 1)) ∷ []) ∷ []) (ending.Outside)
-names_of_parameters_of_arrows_outside = simp meaning_node refl
+names_of_parameters_of_arrows_outside = does refl (simp meaning_node refl)
 
 -- ((a = (x) => 1) => 1); f(1); x;
 names_in_parameters_of_arrows_outside :
@@ -58,7 +58,7 @@ names_in_parameters_of_arrows_outside :
     ▸ statement (ident (codes "x"))
     ▸ End)
     (HostCall 7 shown.Undefined (shown.Num (js_number.Whole (pos 1)) ∷ []) ∷ []) (ending.Outside)
-names_in_parameters_of_arrows_outside = simp meaning_node refl
+names_in_parameters_of_arrows_outside = does refl (simp meaning_node refl)
 
 -- (() => { let x; }); f(1); x;
 names_in_bodies_of_arrows_outside :
@@ -68,7 +68,7 @@ names_in_bodies_of_arrows_outside :
     ▸ statement (ident (codes "x"))
     ▸ End)
     (HostCall 7 shown.Undefined (shown.Num (js_number.Whole (pos 1)) ∷ []) ∷ []) (ending.Outside)
-names_in_bodies_of_arrows_outside = simp meaning_node refl
+names_in_bodies_of_arrows_outside = does refl (simp meaning_node refl)
 
 -- ({ set a(x) {} }); f(1); x;
 names_of_parameters_of_setters_outside :
@@ -78,7 +78,7 @@ names_of_parameters_of_setters_outside :
     ▸ statement (ident (codes "x"))
     ▸ End)
     (HostCall 7 shown.Undefined (shown.Num (js_number.Whole (pos 1)) ∷ []) ∷ []) (ending.Outside)
-names_of_parameters_of_setters_outside = simp meaning_node refl
+names_of_parameters_of_setters_outside = does refl (simp meaning_node refl)
 
 -- ({ set a(b = (x) => 1) {} }); f(1); x;
 names_in_parameters_of_setters_outside :
@@ -88,7 +88,7 @@ names_in_parameters_of_setters_outside :
     ▸ statement (ident (codes "x"))
     ▸ End)
     (HostCall 7 shown.Undefined (shown.Num (js_number.Whole (pos 1)) ∷ []) ∷ []) (ending.Outside)
-names_in_parameters_of_setters_outside = simp meaning_node refl
+names_in_parameters_of_setters_outside = does refl (simp meaning_node refl)
 
 -- ({ set [((x) => "a")()](b) {} }); f(1); x;
 names_in_keys_of_setters_outside :
@@ -98,7 +98,7 @@ names_in_keys_of_setters_outside :
     ▸ statement (ident (codes "x"))
     ▸ End)
     (HostCall 7 shown.Undefined (shown.Num (js_number.Whole (pos 1)) ∷ []) ∷ []) (ending.Outside)
-names_in_keys_of_setters_outside = simp meaning_node refl
+names_in_keys_of_setters_outside = does refl (simp meaning_node refl)
 
 -- ({ set a(b) { let x; } }); f(1); x;
 names_in_bodies_of_setters_outside :
@@ -108,7 +108,7 @@ names_in_bodies_of_setters_outside :
     ▸ statement (ident (codes "x"))
     ▸ End)
     (HostCall 7 shown.Undefined (shown.Num (js_number.Whole (pos 1)) ∷ []) ∷ []) (ending.Outside)
-names_in_bodies_of_setters_outside = simp meaning_node refl
+names_in_bodies_of_setters_outside = does refl (simp meaning_node refl)
 
 -- try {} catch (x) {} f(1); x;
 names_of_handlers_outside :
@@ -118,7 +118,7 @@ names_of_handlers_outside :
     ▸ statement (ident (codes "x"))
     ▸ End)
     (HostCall 7 shown.Undefined (shown.Num (js_number.Whole (pos 1)) ∷ []) ∷ []) (ending.Outside)
-names_of_handlers_outside = simp meaning_node refl
+names_of_handlers_outside = does refl (simp meaning_node refl)
 
 -- try {} catch ({ a = (x) => 1 }) {} f(1); x;
 names_in_parameters_of_handlers_outside :
@@ -128,7 +128,7 @@ names_in_parameters_of_handlers_outside :
     ▸ statement (ident (codes "x"))
     ▸ End)
     (HostCall 7 shown.Undefined (shown.Num (js_number.Whole (pos 1)) ∷ []) ∷ []) (ending.Outside)
-names_in_parameters_of_handlers_outside = simp meaning_node refl
+names_in_parameters_of_handlers_outside = does refl (simp meaning_node refl)
 
 -- try {} catch (e) { let x; } f(1); x;
 names_in_handlers_outside :
@@ -138,7 +138,7 @@ names_in_handlers_outside :
     ▸ statement (ident (codes "x"))
     ▸ End)
     (HostCall 7 shown.Undefined (shown.Num (js_number.Whole (pos 1)) ∷ []) ∷ []) (ending.Outside)
-names_in_handlers_outside = simp meaning_node refl
+names_in_handlers_outside = does refl (simp meaning_node refl)
 
 -- { function x() {} } f(1); x;
 names_of_functions_in_blocks_outside :
@@ -148,7 +148,7 @@ names_of_functions_in_blocks_outside :
     ▸ statement (ident (codes "x"))
     ▸ End)
     (HostCall 7 shown.Undefined (shown.Num (js_number.Whole (pos 1)) ∷ []) ∷ []) (ending.Outside)
-names_of_functions_in_blocks_outside = simp meaning_node refl
+names_of_functions_in_blocks_outside = does refl (simp meaning_node refl)
 
 -- function h() { let x; } f(1); x;
 names_in_functions_outside :
@@ -158,7 +158,7 @@ names_in_functions_outside :
     ▸ statement (ident (codes "x"))
     ▸ End)
     (HostCall 7 shown.Undefined (shown.Num (js_number.Whole (pos 1)) ∷ []) ∷ []) (ending.Outside)
-names_in_functions_outside = simp meaning_node refl
+names_in_functions_outside = does refl (simp meaning_node refl)
 
 -- (function x() {}); f(1); x;
 names_of_function_expressions_outside :
@@ -168,7 +168,7 @@ names_of_function_expressions_outside :
     ▸ statement (ident (codes "x"))
     ▸ End)
     (HostCall 7 shown.Undefined (shown.Num (js_number.Whole (pos 1)) ∷ []) ∷ []) (ending.Outside)
-names_of_function_expressions_outside = simp meaning_node refl
+names_of_function_expressions_outside = does refl (simp meaning_node refl)
 
 -- { class x {} } f(1); x;
 names_of_classes_in_blocks_outside :
@@ -178,7 +178,7 @@ names_of_classes_in_blocks_outside :
     ▸ statement (ident (codes "x"))
     ▸ End)
     (HostCall 7 shown.Undefined (shown.Num (js_number.Whole (pos 1)) ∷ []) ∷ []) (ending.Outside)
-names_of_classes_in_blocks_outside = simp meaning_node refl
+names_of_classes_in_blocks_outside = does refl (simp meaning_node refl)
 
 -- class A { m() { let x; } } f(1); x;
 names_in_classes_outside :
@@ -188,7 +188,7 @@ names_in_classes_outside :
     ▸ statement (ident (codes "x"))
     ▸ End)
     (HostCall 7 shown.Undefined (shown.Num (js_number.Whole (pos 1)) ∷ []) ∷ []) (ending.Outside)
-names_in_classes_outside = simp meaning_node refl
+names_in_classes_outside = does refl (simp meaning_node refl)
 
 -- (class x {}); f(1); x;
 names_of_class_expressions_outside :
@@ -198,7 +198,7 @@ names_of_class_expressions_outside :
     ▸ statement (ident (codes "x"))
     ▸ End)
     (HostCall 7 shown.Undefined (shown.Num (js_number.Whole (pos 1)) ∷ []) ∷ []) (ending.Outside)
-names_of_class_expressions_outside = simp meaning_node refl
+names_of_class_expressions_outside = does refl (simp meaning_node refl)
 
 -- (class { m() { let x; } }); f(1); x;
 names_in_class_expressions_outside :
@@ -208,7 +208,7 @@ names_in_class_expressions_outside :
     ▸ statement (ident (codes "x"))
     ▸ End)
     (HostCall 7 shown.Undefined (shown.Num (js_number.Whole (pos 1)) ∷ []) ∷ []) (ending.Outside)
-names_in_class_expressions_outside = simp meaning_node refl
+names_in_class_expressions_outside = does refl (simp meaning_node refl)
 
 -- let a = (x) => 1; f(1); x;
 names_in_initializers_outside :
@@ -218,7 +218,7 @@ names_in_initializers_outside :
     ▸ statement (ident (codes "x"))
     ▸ End)
     (HostCall 7 shown.Undefined (shown.Num (js_number.Whole (pos 1)) ∷ []) ∷ []) (ending.Outside)
-names_in_initializers_outside = simp meaning_node refl
+names_in_initializers_outside = does refl (simp meaning_node refl)
 
 -- let { a = (x) => 1 } = {}; f(1); x;
 names_in_patterns_outside :
@@ -228,7 +228,7 @@ names_in_patterns_outside :
     ▸ statement (ident (codes "x"))
     ▸ End)
     (HostCall 7 shown.Undefined (shown.Num (js_number.Whole (pos 1)) ∷ []) ∷ []) (ending.Outside)
-names_in_patterns_outside = simp meaning_node refl
+names_in_patterns_outside = does refl (simp meaning_node refl)
 
 -- class A { $property; } f(1); x;
 names_of_parameter_properties_outside :
@@ -238,7 +238,7 @@ names_of_parameter_properties_outside :
     ▸ statement (ident (codes "x"))
     ▸ End)
     (HostCall 7 shown.Undefined (shown.Num (js_number.Whole (pos 1)) ∷ []) ∷ []) (ending.Outside)
-names_of_parameter_properties_outside = simp meaning_node refl
+names_of_parameter_properties_outside = does refl (simp meaning_node refl)
 
 -- f(1); N; $namespace.N;
 names_of_namespaces_before_them :
@@ -248,7 +248,7 @@ names_of_namespaces_before_them :
     ▸ tree (kind.TsModuleDecl false false) (ident (codes "N") ▸ tree kind.TsModuleBlock (list (tree kind.ExprStmt (whole 1 ▸ End) ▸ End) ▸ End) ▸ End)
     ▸ End)
     (HostCall 7 shown.Undefined (shown.Num (js_number.Whole (pos 1)) ∷ []) ∷ []) (ending.Outside)
-names_of_namespaces_before_them = simp meaning_node refl
+names_of_namespaces_before_them = does refl (simp meaning_node refl)
 
 -- f(1); q; $export: (function () { let q; });
 names_within_what_is_exported_last :
@@ -258,7 +258,7 @@ names_within_what_is_exported_last :
     ▸ tree kind.TsExportAssignment (function_expression absent End (declare Let (codes "q") absent ▸ End) ▸ End)
     ▸ End)
     (HostCall 7 shown.Undefined (shown.Num (js_number.Whole (pos 1)) ∷ []) ∷ []) (ending.Outside)
-names_within_what_is_exported_last = simp meaning_node refl
+names_within_what_is_exported_last = does refl (simp meaning_node refl)
 
 -- f(a, b, c, d, e); a: { var a; } for (var b in {}) { var c; } for (var d of []) { var e; }
 names_of_var_in_labelled_statements :
@@ -269,4 +269,4 @@ names_of_var_in_labelled_statements :
     ▸ tree (kind.ForOfStmt false) (declare Var (codes "d") absent ▸ array End ▸ block (declare Var (codes "e") absent ▸ End) ▸ End)
     ▸ End)
     (HostCall 7 shown.Undefined (shown.Undefined ∷ shown.Undefined ∷ shown.Undefined ∷ shown.Undefined ∷ shown.Undefined ∷ []) ∷ []) (ending.Outside)
-names_of_var_in_labelled_statements = simp meaning_node refl
+names_of_var_in_labelled_statements = does refl (simp meaning_node refl)

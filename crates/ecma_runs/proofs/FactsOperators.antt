@@ -12,7 +12,7 @@ use Rattle.ecma_runs.specs.declared.observation.Ending.TheVariants as ending
 use Rattle.ecma_runs.specs.declared.shown.ErrorKind.TheVariants as error
 use Rattle.ecma_runs.specs.declared.shown.Shown.TheVariants as shown
 use Rattle.ecma_runs.proofs.Trees.{End, ◌▸◌, tree, absent, list, ident, key, computed, whole, truth, string, null, member, call, unary, binary, parens, object, property, statement, declare, arrow, class', meaning_node}
-use Rattle.ecma_runs.proofs.Scripts.{Does, nulls}
+use Rattle.ecma_runs.proofs.Scripts.{Does, does, nulls}
 use Rattle.std.specs.Fmt.{digits}
 use Rattle.std.specs.Str.{chars}
 use Rattle.ecma_number.specs.Arithmetic.{product_of, quotient_of, remainder_of, power_of}
@@ -24,7 +24,7 @@ adds_and_joins :
     ▸ End)
     (HostCall 7 shown.Undefined (shown.Num (js_number.Whole (pos 3)) ∷ shown.Text (codes "a1") ∷ shown.Num (js_number.Whole (pos 1)) ∷ shown.Num (js_number.Whole (pos 2)) ∷ shown.Text (codes "undefinedx") ∷ shown.Text (codes "-1") ∷ []) ∷ []) (ending.Done [])
 unfolding digits
-adds_and_joins = simp meaning_node refl
+adds_and_joins = does refl (simp meaning_node refl)
 
 -- f(7 - 9, 3 * 4, 6 / 3, 7 % 4, 2 ** 5, -(0), 1 / 0);
 computes :
@@ -33,7 +33,7 @@ computes :
     ▸ End)
     (HostCall 7 shown.Undefined (shown.Num (js_number.Whole (negsuc 1)) ∷ shown.Num (js_number.Whole (pos 12)) ∷ shown.Num (js_number.Whole (pos 2)) ∷ shown.Num (js_number.Whole (pos 3)) ∷ shown.Num (js_number.Whole (pos 32)) ∷ shown.Num (js_number.NegZero) ∷ shown.Num (js_number.Infinity) ∷ []) ∷ []) (ending.Done [])
 unfolding product_of quotient_of remainder_of power_of
-computes = simp meaning_node refl
+computes = does refl (simp meaning_node refl)
 
 -- f(5 & 3, 5 | 3, 5 ^ 3, ~5, 1 << 31, -1 >>> 0, -8 >> 1);
 shifts_and_masks :
@@ -41,7 +41,7 @@ shifts_and_masks :
     (statement (call (ident (codes "f")) (binary binary.BitAnd (whole 5) (whole 3) ▸ binary binary.BitOr (whole 5) (whole 3) ▸ binary binary.BitXor (whole 5) (whole 3) ▸ unary unary.Tilde (whole 5) ▸ binary binary.LShift (whole 1) (whole 31) ▸ binary binary.ZeroFillRShift (unary unary.Minus (whole 1)) (whole 0) ▸ binary binary.RShift (unary unary.Minus (whole 8)) (whole 1) ▸ End))
     ▸ End)
     (HostCall 7 shown.Undefined (shown.Num (js_number.Whole (pos 1)) ∷ shown.Num (js_number.Whole (pos 7)) ∷ shown.Num (js_number.Whole (pos 6)) ∷ shown.Num (js_number.Whole (negsuc 5)) ∷ shown.Num (js_number.Whole (negsuc 2147483647)) ∷ shown.Num (js_number.Whole (pos 4294967295)) ∷ shown.Num (js_number.Whole (negsuc 3)) ∷ []) ∷ []) (ending.Done [])
-shifts_and_masks = simp meaning_node refl
+shifts_and_masks = does refl (simp meaning_node refl)
 
 -- f(1 < 2, "b" < "a", null >= 0, undefined < 1, undefined >= 1, 3 <= 2, 2 > -1 / 0);
 compares :
@@ -50,7 +50,7 @@ compares :
     ▸ End)
     (HostCall 7 shown.Undefined (shown.Bool true ∷ shown.Bool false ∷ shown.Bool true ∷ shown.Bool false ∷ shown.Bool false ∷ shown.Bool false ∷ shown.Bool true ∷ []) ∷ []) (ending.Done [])
 unfolding quotient_of chars
-compares = simp meaning_node refl
+compares = does refl (simp meaning_node refl)
 
 -- f("\u{10000}" < "\uffee", "ab" < "b", "a" < "ab", "a" < "a");
 compares_by_units :
@@ -59,7 +59,7 @@ compares_by_units :
     ▸ End)
     (HostCall 7 shown.Undefined (shown.Bool true ∷ shown.Bool true ∷ shown.Bool true ∷ shown.Bool false ∷ []) ∷ []) (ending.Done [])
 unfolding chars
-compares_by_units = simp meaning_node refl
+compares_by_units = does refl (simp meaning_node refl)
 
 -- f(1 == true, null == undefined, null == 0, NaN != NaN, 0 === -0, "a" === "a", "a" == null);
 tests_equality :
@@ -67,7 +67,7 @@ tests_equality :
     (statement (call (ident (codes "f")) (binary binary.EqEq (whole 1) (truth true) ▸ binary binary.EqEq null (ident (codes "undefined")) ▸ binary binary.EqEq null (whole 0) ▸ binary binary.NotEq (ident (codes "NaN")) (ident (codes "NaN")) ▸ binary binary.EqEqEq (whole 0) (unary unary.Minus (whole 0)) ▸ binary binary.EqEqEq (string (codes "a")) (string (codes "a")) ▸ binary binary.EqEq (string (codes "a")) null ▸ End))
     ▸ End)
     (HostCall 7 shown.Undefined (shown.Bool true ∷ shown.Bool true ∷ shown.Bool false ∷ shown.Bool true ∷ shown.Bool true ∷ shown.Bool true ∷ shown.Bool false ∷ []) ∷ []) (ending.Done [])
-tests_equality = simp meaning_node refl
+tests_equality = does refl (simp meaning_node refl)
 
 -- let o = {}; f(o === o, o == {}, o == null, f == f, f === g);
 tests_objects :
@@ -76,7 +76,7 @@ tests_objects :
     ▸ statement (call (ident (codes "f")) (binary binary.EqEqEq (ident (codes "o")) (ident (codes "o")) ▸ binary binary.EqEq (ident (codes "o")) (object End) ▸ binary binary.EqEq (ident (codes "o")) null ▸ binary binary.EqEq (ident (codes "f")) (ident (codes "f")) ▸ binary binary.EqEqEq (ident (codes "f")) (ident (codes "g")) ▸ End))
     ▸ End)
     (HostCall 7 shown.Undefined (shown.Bool true ∷ shown.Bool false ∷ shown.Bool false ∷ shown.Bool true ∷ shown.Bool false ∷ []) ∷ []) (ending.Done [])
-tests_objects = simp meaning_node refl
+tests_objects = does refl (simp meaning_node refl)
 
 -- f(0 || 1, 0 && f(2), null ?? 3, 0 ?? f(4), 1 || f(5));
 leaves_out_the_right_side :
@@ -84,7 +84,7 @@ leaves_out_the_right_side :
     (statement (call (ident (codes "f")) (binary binary.LogicalOr (whole 0) (whole 1) ▸ binary binary.LogicalAnd (whole 0) (call (ident (codes "f")) (whole 2 ▸ End)) ▸ binary binary.NullishCoalescing null (whole 3) ▸ binary binary.NullishCoalescing (whole 0) (call (ident (codes "f")) (whole 4 ▸ End)) ▸ binary binary.LogicalOr (whole 1) (call (ident (codes "f")) (whole 5 ▸ End)) ▸ End))
     ▸ End)
     (HostCall 7 shown.Undefined (shown.Num (js_number.Whole (pos 1)) ∷ shown.Num (js_number.Whole (pos 0)) ∷ shown.Num (js_number.Whole (pos 3)) ∷ shown.Num (js_number.Whole (pos 0)) ∷ shown.Num (js_number.Whole (pos 1)) ∷ []) ∷ []) (ending.Done [])
-leaves_out_the_right_side = simp meaning_node refl
+leaves_out_the_right_side = does refl (simp meaning_node refl)
 
 -- let a = 1; a += 2; a *= 4; a -= true; a %= 4; f(a); a ||= f(9); a &&= 7; f(a); let b = null; b ??= 3; f(b);
 assigns_with_operators :
@@ -104,7 +104,7 @@ assigns_with_operators :
     ▸ End)
     (HostCall 7 shown.Undefined (shown.Num (js_number.Whole (pos 3)) ∷ []) ∷ HostCall 7 shown.Undefined (shown.Num (js_number.Whole (pos 7)) ∷ []) ∷ HostCall 7 shown.Undefined (shown.Num (js_number.Whole (pos 3)) ∷ []) ∷ []) (ending.Done [])
 unfolding product_of remainder_of
-assigns_with_operators = simp meaning_node refl
+assigns_with_operators = does refl (simp meaning_node refl)
 
 -- let o = { a: 1 }; o.a += 1; o["a"] <<= 3; f(o.a++, ++o.a, o.a--, o.a);
 assigns_members_with_operators :
@@ -115,7 +115,7 @@ assigns_members_with_operators :
     ▸ statement (call (ident (codes "f")) (tree (kind.UpdateExpr update.PlusPlus false) (member (ident (codes "o")) (codes "a") ▸ End) ▸ tree (kind.UpdateExpr update.PlusPlus true) (member (ident (codes "o")) (codes "a") ▸ End) ▸ tree (kind.UpdateExpr update.MinusMinus false) (member (ident (codes "o")) (codes "a") ▸ End) ▸ member (ident (codes "o")) (codes "a") ▸ End))
     ▸ End)
     (HostCall 7 shown.Undefined (shown.Num (js_number.Whole (pos 16)) ∷ shown.Num (js_number.Whole (pos 18)) ∷ shown.Num (js_number.Whole (pos 18)) ∷ shown.Num (js_number.Whole (pos 17)) ∷ []) ∷ []) (ending.Done [])
-assigns_members_with_operators = simp meaning_node refl
+assigns_members_with_operators = does refl (simp meaning_node refl)
 
 -- let a = true; f(a++, a, --a); let b = null; f(b++, -null, +true, +undefined);
 counts_as_numbers :
@@ -126,7 +126,7 @@ counts_as_numbers :
     ▸ statement (call (ident (codes "f")) (tree (kind.UpdateExpr update.PlusPlus false) (ident (codes "b") ▸ End) ▸ unary unary.Minus null ▸ unary unary.Plus (truth true) ▸ unary unary.Plus (ident (codes "undefined")) ▸ End))
     ▸ End)
     (HostCall 7 shown.Undefined (shown.Num (js_number.Whole (pos 1)) ∷ shown.Num (js_number.Whole (pos 2)) ∷ shown.Num (js_number.Whole (pos 1)) ∷ []) ∷ HostCall 7 shown.Undefined (shown.Num (js_number.Whole (pos 0)) ∷ shown.Num (js_number.NegZero) ∷ shown.Num (js_number.Whole (pos 1)) ∷ shown.Num (js_number.NaN) ∷ []) ∷ []) (ending.Done [])
-counts_as_numbers = simp meaning_node refl
+counts_as_numbers = does refl (simp meaning_node refl)
 
 -- f(typeof 1, typeof "a", typeof null, typeof undefined, typeof true, typeof {}, typeof (() => 1), typeof class {}, typeof nothing);
 tells_types :
@@ -134,7 +134,7 @@ tells_types :
     (statement (call (ident (codes "f")) (unary unary.TypeOf (whole 1) ▸ unary unary.TypeOf (string (codes "a")) ▸ unary unary.TypeOf null ▸ unary unary.TypeOf (ident (codes "undefined")) ▸ unary unary.TypeOf (truth true) ▸ unary unary.TypeOf (object End) ▸ unary unary.TypeOf (parens (arrow End (whole 1))) ▸ unary unary.TypeOf (tree kind.ClassExpr (absent ▸ class' absent End ▸ End)) ▸ unary unary.TypeOf (ident (codes "nothing")) ▸ End))
     ▸ End)
     (HostCall 7 shown.Undefined (shown.Text (codes "number") ∷ shown.Text (codes "string") ∷ shown.Text (codes "object") ∷ shown.Text (codes "undefined") ∷ shown.Text (codes "boolean") ∷ shown.Text (codes "object") ∷ shown.Text (codes "function") ∷ shown.Text (codes "function") ∷ shown.Text (codes "undefined") ∷ []) ∷ []) (ending.Done [])
-tells_types = simp meaning_node refl
+tells_types = does refl (simp meaning_node refl)
 
 -- f(void f(1), !0, !"a", !!null);
 voids_and_negates :
@@ -142,7 +142,7 @@ voids_and_negates :
     (statement (call (ident (codes "f")) (unary unary.Void (call (ident (codes "f")) (whole 1 ▸ End)) ▸ unary unary.Bang (whole 0) ▸ unary unary.Bang (string (codes "a")) ▸ unary unary.Bang (unary unary.Bang null) ▸ End))
     ▸ End)
     (HostCall 7 shown.Undefined (shown.Num (js_number.Whole (pos 1)) ∷ []) ∷ HostCall 7 shown.Undefined (shown.Undefined ∷ shown.Bool true ∷ shown.Bool false ∷ shown.Bool false ∷ []) ∷ []) (ending.Done [])
-voids_and_negates = simp meaning_node refl
+voids_and_negates = does refl (simp meaning_node refl)
 
 -- f((f(1), f(2), 3), f(4) ? f(5) : f(6));
 evaluates_in_order :
@@ -150,7 +150,7 @@ evaluates_in_order :
     (statement (call (ident (codes "f")) (parens (tree kind.SeqExpr (call (ident (codes "f")) (whole 1 ▸ End) ▸ call (ident (codes "f")) (whole 2 ▸ End) ▸ whole 3 ▸ End)) ▸ tree kind.CondExpr (call (ident (codes "f")) (whole 4 ▸ End) ▸ call (ident (codes "f")) (whole 5 ▸ End) ▸ call (ident (codes "f")) (whole 6 ▸ End) ▸ End) ▸ End))
     ▸ End)
     (HostCall 7 shown.Undefined (shown.Num (js_number.Whole (pos 1)) ∷ []) ∷ HostCall 7 shown.Undefined (shown.Num (js_number.Whole (pos 2)) ∷ []) ∷ HostCall 7 shown.Undefined (shown.Num (js_number.Whole (pos 4)) ∷ []) ∷ HostCall 7 shown.Undefined (shown.Num (js_number.Whole (pos 6)) ∷ []) ∷ HostCall 7 shown.Undefined (shown.Num (js_number.Whole (pos 3)) ∷ shown.Null ∷ []) ∷ []) (ending.Done [])
-evaluates_in_order = simp meaning_node refl
+evaluates_in_order = does refl (simp meaning_node refl)
 
 -- let a = 1; f(`x${a}y${null}${`z${true}`}`);
 joins_templates :
@@ -160,7 +160,7 @@ joins_templates :
     ▸ End)
     (HostCall 7 shown.Undefined (shown.Text (codes "x1ynullztrue") ∷ []) ∷ []) (ending.Done [])
 unfolding digits
-joins_templates = simp meaning_node refl
+joins_templates = does refl (simp meaning_node refl)
 
 -- f("größe".length, "\u{1f600}".length);
 counts_units :
@@ -168,7 +168,7 @@ counts_units :
     (statement (call (ident (codes "f")) (member (string (103 ∷ 114 ∷ 195 ∷ 182 ∷ 195 ∷ 159 ∷ 101 ∷ [])) (codes "length") ▸ member (string (240 ∷ 159 ∷ 152 ∷ 128 ∷ [])) (codes "length") ▸ End))
     ▸ End)
     (HostCall 7 shown.Undefined (shown.Num (js_number.Whole (pos 5)) ∷ shown.Num (js_number.Whole (pos 2)) ∷ []) ∷ []) (ending.Done [])
-counts_units = simp meaning_node refl
+counts_units = does refl (simp meaning_node refl)
 
 -- typeof x; let x;
 reads_empty_variables_under_typeof :
@@ -177,4 +177,4 @@ reads_empty_variables_under_typeof :
     ▸ declare Let (codes "x") absent
     ▸ End)
     [] (ending.Thrown (shown.Error error.Reference))
-reads_empty_variables_under_typeof = simp meaning_node refl
+reads_empty_variables_under_typeof = does refl (simp meaning_node refl)

@@ -12,7 +12,7 @@ use Rattle.ecma_runs.specs.declared.observation.Ending.TheVariants as ending
 use Rattle.ecma_runs.specs.declared.shown.ErrorKind.TheVariants as error
 use Rattle.ecma_runs.specs.declared.shown.Shown.TheVariants as shown
 use Rattle.ecma_runs.proofs.Trees.{End, ◌▸◌, tree, absent, list, ident, key, computed, binding, whole, string, member, call, new', assign, unary, binary, parens, array, object, property, statement, block, returns, declare_pattern, declare, parameter, declare_function, arrow, class_method, field, constructor', class', declare_class, meaning_node}
-use Rattle.ecma_runs.proofs.Scripts.{Does, nulls}
+use Rattle.ecma_runs.proofs.Scripts.{Does, does, nulls}
 
 -- f(a, b, c, d); if (0) { var a; } while (0) { var b; } do { var c; } while (0); for (; 0; ) { var d; }
 declares_var_in_statements :
@@ -24,7 +24,7 @@ declares_var_in_statements :
     ▸ tree kind.ForStmt (absent ▸ whole 0 ▸ absent ▸ block (declare Var (codes "d") absent ▸ End) ▸ End)
     ▸ End)
     (HostCall 7 shown.Undefined (shown.Undefined ∷ shown.Undefined ∷ shown.Undefined ∷ shown.Undefined ∷ []) ∷ []) (ending.Done [])
-declares_var_in_statements = simp meaning_node refl
+declares_var_in_statements = does refl (simp meaning_node refl)
 
 -- f(a, b); if (1) var a = 1; else var b = 2; f(a, b);
 declares_var_in_both_branches :
@@ -34,7 +34,7 @@ declares_var_in_both_branches :
     ▸ statement (call (ident (codes "f")) (ident (codes "a") ▸ ident (codes "b") ▸ End))
     ▸ End)
     (HostCall 7 shown.Undefined (shown.Undefined ∷ shown.Undefined ∷ []) ∷ HostCall 7 shown.Undefined (shown.Num (js_number.Whole (pos 1)) ∷ shown.Undefined ∷ []) ∷ []) (ending.Done [])
-declares_var_in_both_branches = simp meaning_node refl
+declares_var_in_both_branches = does refl (simp meaning_node refl)
 
 -- f(a, b, c); try { var a = 1; throw 2; } catch { var b = 3; } finally { var c = 4; } f(a, b, c);
 declares_var_in_try :
@@ -44,7 +44,7 @@ declares_var_in_try :
     ▸ statement (call (ident (codes "f")) (ident (codes "a") ▸ ident (codes "b") ▸ ident (codes "c") ▸ End))
     ▸ End)
     (HostCall 7 shown.Undefined (shown.Undefined ∷ shown.Undefined ∷ shown.Undefined ∷ []) ∷ HostCall 7 shown.Undefined (shown.Num (js_number.Whole (pos 1)) ∷ shown.Num (js_number.Whole (pos 3)) ∷ shown.Num (js_number.Whole (pos 4)) ∷ []) ∷ []) (ending.Done [])
-declares_var_in_try = simp meaning_node refl
+declares_var_in_try = does refl (simp meaning_node refl)
 
 -- function h() {} h = 1; class A {} A = 2; { function k() {} k = 3; f(k); } f(h, A);
 writes_functions_and_classes :
@@ -57,7 +57,7 @@ writes_functions_and_classes :
     ▸ statement (call (ident (codes "f")) (ident (codes "h") ▸ ident (codes "A") ▸ End))
     ▸ End)
     (HostCall 7 shown.Undefined (shown.Num (js_number.Whole (pos 3)) ∷ []) ∷ HostCall 7 shown.Undefined (shown.Num (js_number.Whole (pos 1)) ∷ shown.Num (js_number.Whole (pos 2)) ∷ []) ∷ []) (ending.Done [])
-writes_functions_and_classes = simp meaning_node refl
+writes_functions_and_classes = does refl (simp meaning_node refl)
 
 -- function h(a) { a = 2; f(a); } h(1); try { throw 3; } catch (e) { e = 4; f(e); }
 writes_parameters_and_what_was_caught :
@@ -67,7 +67,7 @@ writes_parameters_and_what_was_caught :
     ▸ tree kind.TryStmt (block (tree kind.ThrowStmt (whole 3 ▸ End) ▸ End) ▸ tree kind.CatchClause (binding (codes "e") ▸ block (statement (assign (ident (codes "e")) (whole 4)) ▸ statement (call (ident (codes "f")) (ident (codes "e") ▸ End)) ▸ End) ▸ End) ▸ absent ▸ End)
     ▸ End)
     (HostCall 7 shown.Undefined (shown.Num (js_number.Whole (pos 2)) ∷ []) ∷ HostCall 7 shown.Undefined (shown.Num (js_number.Whole (pos 4)) ∷ []) ∷ []) (ending.Done [])
-writes_parameters_and_what_was_caught = simp meaning_node refl
+writes_parameters_and_what_was_caught = does refl (simp meaning_node refl)
 
 -- try { x = f(1); } catch (e) { f(e); } let x = 2; try { y = 3; } catch (e) { f(e); } const y = 4;
 writes_no_empty_variable :
@@ -78,7 +78,7 @@ writes_no_empty_variable :
     ▸ declare Const (codes "y") (whole 4)
     ▸ End)
     (HostCall 7 shown.Undefined (shown.Num (js_number.Whole (pos 1)) ∷ []) ∷ HostCall 7 shown.Undefined (shown.Error error.Reference ∷ []) ∷ HostCall 7 shown.Undefined (shown.Error error.Reference ∷ []) ∷ []) (ending.Done [])
-writes_no_empty_variable = simp meaning_node refl
+writes_no_empty_variable = does refl (simp meaning_node refl)
 
 -- import d, { a } from "m"; f(a, d); try { a = 1; } catch (e) { f(e); } d = 2;
 writes_no_import :
@@ -89,7 +89,7 @@ writes_no_import :
     ▸ statement (assign (ident (codes "d")) (whole 2))
     ▸ End)
     (HostCall 7 shown.Undefined (shown.Num (js_number.Whole (pos 5)) ∷ shown.Host 9 ∷ []) ∷ HostCall 7 shown.Undefined (shown.Error error.Kind ∷ []) ∷ []) (ending.Thrown (shown.Error error.Kind))
-writes_no_import = simp meaning_node refl
+writes_no_import = does refl (simp meaning_node refl)
 
 -- let x = 1; let y = 2; f(x, y); { let y = 3; x = 4; f(x, y); } f(x, y);
 tells_contexts_apart :
@@ -101,7 +101,7 @@ tells_contexts_apart :
     ▸ statement (call (ident (codes "f")) (ident (codes "x") ▸ tree (kind.Ident (codes "x") 1 false) End ▸ End))
     ▸ End)
     (HostCall 7 shown.Undefined (shown.Num (js_number.Whole (pos 1)) ∷ shown.Num (js_number.Whole (pos 2)) ∷ []) ∷ HostCall 7 shown.Undefined (shown.Num (js_number.Whole (pos 4)) ∷ shown.Num (js_number.Whole (pos 3)) ∷ []) ∷ HostCall 7 shown.Undefined (shown.Num (js_number.Whole (pos 4)) ∷ shown.Num (js_number.Whole (pos 2)) ∷ []) ∷ []) (ending.Done [])
-tells_contexts_apart = simp meaning_node refl
+tells_contexts_apart = does refl (simp meaning_node refl)
 
 -- f(1); g(x);
 reads_free_names_of_any_context :
@@ -110,7 +110,7 @@ reads_free_names_of_any_context :
     ▸ statement (call (tree (kind.Ident (codes "g") 2 false) End) (tree (kind.Ident (codes "x") 1 false) End ▸ End))
     ▸ End)
     (HostCall 7 shown.Undefined (shown.Num (js_number.Whole (pos 1)) ∷ []) ∷ []) (ending.Thrown (shown.Error error.Reference))
-reads_free_names_of_any_context = simp meaning_node refl
+reads_free_names_of_any_context = does refl (simp meaning_node refl)
 
 -- f(1); typeof a; let [a] = [];
 has_names_of_array_patterns :
@@ -120,7 +120,7 @@ has_names_of_array_patterns :
     ▸ declare_pattern Let (tree (kind.ArrayPat false) (list (binding (codes "a") ▸ End) ▸ absent ▸ End)) (array End)
     ▸ End)
     (HostCall 7 shown.Undefined (shown.Num (js_number.Whole (pos 1)) ∷ []) ∷ []) (ending.Thrown (shown.Error error.Reference))
-has_names_of_array_patterns = simp meaning_node refl
+has_names_of_array_patterns = does refl (simp meaning_node refl)
 
 -- f(1); typeof b; let { a, ...b } = {};
 has_names_of_rest :
@@ -130,7 +130,7 @@ has_names_of_rest :
     ▸ declare_pattern Let (tree (kind.ObjectPat false) (list (tree kind.AssignPatProp (binding (codes "a") ▸ absent ▸ End) ▸ tree kind.RestPat (binding (codes "b") ▸ absent ▸ End) ▸ End) ▸ absent ▸ End)) (object End)
     ▸ End)
     (HostCall 7 shown.Undefined (shown.Num (js_number.Whole (pos 1)) ∷ []) ∷ []) (ending.Thrown (shown.Error error.Reference))
-has_names_of_rest = simp meaning_node refl
+has_names_of_rest = does refl (simp meaning_node refl)
 
 -- let A = 1; try { (class A extends A {}); } catch (e) { f(e); }
 reads_no_outer_name_in_heritage :
@@ -139,7 +139,7 @@ reads_no_outer_name_in_heritage :
     ▸ tree kind.TryStmt (block (statement (parens (tree kind.ClassExpr (ident (codes "A") ▸ class' (ident (codes "A")) End ▸ End))) ▸ End) ▸ tree kind.CatchClause (binding (codes "e") ▸ block (statement (call (ident (codes "f")) (ident (codes "e") ▸ End)) ▸ End) ▸ End) ▸ absent ▸ End)
     ▸ End)
     (HostCall 7 shown.Undefined (shown.Error error.Reference ∷ []) ∷ []) (ending.Done [])
-reads_no_outer_name_in_heritage = simp meaning_node refl
+reads_no_outer_name_in_heritage = does refl (simp meaning_node refl)
 
 -- let B = class A { constructor() { f(A === B); } x = A; static y = A; static ["z"]() { return A; } }; f(new B().x === B, B.y === B, B.z() === B);
 has_the_inner_name_in_members :
@@ -148,7 +148,7 @@ has_the_inner_name_in_members :
     ▸ statement (call (ident (codes "f")) (binary binary.EqEqEq (member (new' (ident (codes "B")) End) (codes "x")) (ident (codes "B")) ▸ binary binary.EqEqEq (member (ident (codes "B")) (codes "y")) (ident (codes "B")) ▸ binary binary.EqEqEq (call (member (ident (codes "B")) (codes "z")) End) (ident (codes "B")) ▸ End))
     ▸ End)
     (HostCall 7 shown.Undefined (shown.Bool true ∷ []) ∷ HostCall 7 shown.Undefined (shown.Bool true ∷ shown.Bool true ∷ shown.Bool true ∷ []) ∷ []) (ending.Done [])
-has_the_inner_name_in_members = simp meaning_node refl
+has_the_inner_name_in_members = does refl (simp meaning_node refl)
 
 -- function h() { f(new.target, (() => new.target)()); } h(); let o = { h }; o.h();
 has_no_new_target_in_calls :
@@ -159,7 +159,7 @@ has_no_new_target_in_calls :
     ▸ statement (call (member (ident (codes "o")) (codes "h")) End)
     ▸ End)
     (HostCall 7 shown.Undefined (shown.Undefined ∷ shown.Undefined ∷ []) ∷ HostCall 7 shown.Undefined (shown.Undefined ∷ shown.Undefined ∷ []) ∷ []) (ending.Done [])
-has_no_new_target_in_calls = simp meaning_node refl
+has_no_new_target_in_calls = does refl (simp meaning_node refl)
 
 -- try { arguments; } catch (e) { f(e); } f(typeof arguments);
 has_no_arguments_outside_of_functions :
@@ -168,7 +168,7 @@ has_no_arguments_outside_of_functions :
     ▸ statement (call (ident (codes "f")) (unary unary.TypeOf (ident (codes "arguments")) ▸ End))
     ▸ End)
     (HostCall 7 shown.Undefined (shown.Error error.Reference ∷ []) ∷ HostCall 7 shown.Undefined (shown.Text (codes "undefined") ∷ []) ∷ []) (ending.Done [])
-has_no_arguments_outside_of_functions = simp meaning_node refl
+has_no_arguments_outside_of_functions = does refl (simp meaning_node refl)
 
 -- let b = 1; let o = { set a({ c = b, d = c }) { f(c, d); } }; o.a = {}; o.a = { c: 2 };
 has_a_default_that_reads_a_parameter_of_the_setter :
@@ -179,4 +179,4 @@ has_a_default_that_reads_a_parameter_of_the_setter :
     ▸ statement (assign (member (ident (codes "o")) (codes "a")) (object (property (key (codes "c")) (whole 2) ▸ End)))
     ▸ End)
     (HostCall 7 shown.Undefined (shown.Num (js_number.Whole (pos 1)) ∷ shown.Num (js_number.Whole (pos 1)) ∷ []) ∷ HostCall 7 shown.Undefined (shown.Num (js_number.Whole (pos 2)) ∷ shown.Num (js_number.Whole (pos 2)) ∷ []) ∷ []) (ending.Done [])
-has_a_default_that_reads_a_parameter_of_the_setter = simp meaning_node refl
+has_a_default_that_reads_a_parameter_of_the_setter = does refl (simp meaning_node refl)
