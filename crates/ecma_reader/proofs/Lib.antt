@@ -5,6 +5,7 @@ pub mod Levels
 pub mod Memories
 pub mod Operands
 pub mod Outlooks
+pub mod Quiet
 pub mod Raising
 pub mod Readings
 pub mod Remainders

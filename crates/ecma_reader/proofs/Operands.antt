@@ -28,17 +28,21 @@ use Rattle.ecma_kind.specs.declared.operators.BinaryOp.TheVariants as binary
 use Rattle.ecma_reader.specs.FirstByte.{first_byte}
 use Rattle.ecma_reader.specs.Outlook.{Fails, Stays, outlook, found_outlook, leaf_outlook}
 use Rattle.ecma_reader.specs.Agreement.{position, kept, SameText}
-use Rattle.ecma_reader.specs.Operands.{OperandOr, IsClear, Leads, MissesBefore, MissesWord, Misses, KeptOr, Begins, HasOperand, made_on, tails_on}
+use Rattle.ecma_reader.specs.Operands.{OperandOr, BeginsNothing, IsClear, is_quiet, Leads, MissesBefore, MissesWord, Misses, KeptOr, Begins, HasOperand, made_on, tails_on}
 use Rattle.ecma_grammar.specs.productions.Tails.{Tail, links_tail, tails}
 use Rattle.ecma_grammar.specs.productions.Names.{binding_ident}
 use Rattle.ecma_grammar.specs.productions.Types.{type_params, type_param_decl, params, some_return_annotation}
 use Rattle.ecma_grammar.specs.productions.Functions.{function_expression, arrow, arrow_rest, arrow_body, before_colon}
-use Rattle.ecma_grammar.specs.productions.Primary.{class_expression, primary}
+use Rattle.ecma_grammar.specs.productions.Primary.{class_expression, primary, template, array, object, parenthesized}
 use Rattle.ecma_grammar.specs.productions.Chains.{super_of_link, import_meta, import_call, construction, chain, links}
 use Rattle.ecma_grammar.specs.productions.Operators.{update, updates, prefixed, exponentiation, factors, terms, shifts, shift, relations, relation, equality, bit_and, bit_xor, bit_or, short_circuit, if_in, equalities, conjunctions, exclusions, disjunctions, coalescing, logicals}
-use Rattle.ecma_grammar.specs.productions.Expressions.{yield_, choice, conditional, assignments}
-use Rattle.ecma_reader.proofs.Firsts.{punct-off, angle-off}
-use Rattle.ecma_reader.proofs.Outlooks.{max-none, foreseen, Foresees}
+use Rattle.ecma_grammar.specs.productions.Expressions.{yield_, assign_body, choice, conditional, assignments}
+use Rattle.ecma_grammar.specs.Glance as sighted
+use Rattle.ecma_grammar.specs.Glance.{sight}
+use Rattle.ecma_reader.proofs.Firsts.{word-off, punct-off, angle-off}
+use Rattle.ecma_reader.proofs.Quiet.{quiet-is, quiet-off, byte-some, byte-small}
+use Rattle.ecma_reader.proofs.Sights.{sees-fails}
+use Rattle.ecma_reader.proofs.Outlooks.{max-none, fails-known, foreseen, Foresees}
 
 max-same : (k : ℕ) → max k k ≡ k
 max-same k = omega arith
@@ -145,6 +149,67 @@ module _ (text : List ℕ) (mode : Mode) (i : ℕ) (clear : IsClear text i) wher
   unfolding arrow arrow_rest binding_ident
   arrow-fails m name no_in middle =
       or-fails async-fails (build-fails (put-fails (or-fails (put-fails (then-fails (build-fails (build-fails (then-fails (keep-fails name)))))) (parenthesized-fails m))))
+
+  -- where no leaf stands there, nor anything else that is a primary expression
+
+  module _ (m : mode.typescript ≡ true) (n : mode.assignments ≡ true) (nothing : BeginsNothing text i) where
+    begins-other : (c : ℕ) → is_quiet c ≡ false → nat_eq (first_byte text i) c ≡ false
+    begins-other c h = quiet-off (first_byte text i) c nothing.byte h
+
+    literal-word-fails : {l : Leaf} (c : ℕ) (cs : List ℕ) → leaf_outlook text i l ≡ found_outlook (lex.word text i (c ∷ cs)) → is_quiet c ≡ false → FailsThere (keep l)
+    literal-word-fails c cs is h = keep-fails (is ∙ word-off text i c cs (begins-other c h))
+
+    -- what the byte alone says
+    seen-fails : {g : Grammar} → sight 44 g ≡ sighted.fails → sight 41 g ≡ sighted.fails → sight 93 g ≡ sighted.fails → sight 125 g ≡ sighted.fails → sight 59 g ≡ sighted.fails → sight 58 g ≡ sighted.fails → FailsThere g
+    seen-fails {g = g} a b c d e f = record {
+      is =
+          sees-fails text i (first_byte text i) mode g refl (byte-some (first_byte text i) nothing.byte) (byte-small (first_byte text i) nothing.byte) m n
+          (quiet-is (first_byte text i) (λ x. sight x g ≡ sighted.fails) nothing.byte a b c d e f);
+    }
+
+    bracketed-fail : FailsThere (template false // array // object // parenthesized)
+    unfolding template array object parenthesized
+    bracketed-fail = seen-fails refl refl refl refl refl refl
+
+    primary-fails : FailsThere primary
+    unfolding primary
+    primary-fails =
+        or-fails function-fails (or-fails class-fails
+        (or-fails (literal-word-fails 116 (codes "his") refl refl) (or-fails (literal-word-fails 110 (codes "ull") refl refl) (or-fails (literal-word-fails 116 (codes "rue") refl refl) (or-fails (literal-word-fails 102 (codes "alse") refl refl)
+        (or-fails (keep-fails nothing.name) (or-fails (seen-fails refl refl refl refl refl refl) (or-fails (seen-fails refl refl refl refl refl refl) (or-fails (seen-fails refl refl refl refl refl refl)
+        (or-fails (keep-fails nothing.regex) bracketed-fail))))))))))
+
+    chain-fails : FailsThere chain
+    unfolding chain
+    chain-fails = build-fails (then-fails (or-fails super-fails (or-fails meta-fails (or-fails import-fails (or-fails construction-fails primary-fails)))))
+
+    update-fails : FailsThere update
+    unfolding update
+    update-fails = or-fails (build-fails (behind_punct-fails clear.byte.no_plus)) (or-fails (build-fails (behind_punct-fails clear.byte.no_minus)) (build-fails (then-fails chain-fails)))
+
+    exponentiation-fails : FailsThere exponentiation
+    unfolding exponentiation
+    exponentiation-fails = or-fails (prefixed-fails m) (build-fails (then-fails update-fails))
+
+    shift-fails : FailsThere shift
+    unfolding shift
+    shift-fails = build-fails (then-fails (build-fails (then-fails (build-fails (then-fails exponentiation-fails)))))
+
+    private-fails : (no_in : Bool) → FailsThere (if_in no_in (keep leaf.PrivateName ▸ item (plain.BinExpr binary.In) (word (codes "in") ▸ shift)) // shift)
+    private-fails true = record { is = rw shift-fails.is (ap Fails (none-max (skipped text i).to)) }
+    private-fails false = or-fails (then-fails (keep-fails clear.private_name)) shift-fails
+
+    relation-fails : (no_in : Bool) → FailsThere (relation no_in)
+    unfolding relation
+    relation-fails no_in = build-fails (then-fails (private-fails no_in))
+
+    conditional-fails : (no_in middle : Bool) → FailsThere (conditional no_in middle)
+    unfolding conditional short_circuit bit_or bit_xor bit_and equality
+    conditional-fails no_in middle =
+        build-fails (then-fails (build-fails (then-fails (build-fails (then-fails (build-fails (then-fails (build-fails (then-fails (build-fails (then-fails (relation-fails no_in))))))))))))
+
+    expression-fails : (no_in middle : Bool) → FailsThere (assign_body no_in middle)
+    expression-fails no_in middle = or-fails (arrow-fails m nothing.name no_in middle) (or-fails (yield-fails no_in middle) (build-fails (then-fails (conditional-fails no_in middle))))
 
   module _ (parts : Parts text) where
     abbrev Reads : Grammar → ℕ → Outcome (List Node)
@@ -419,3 +484,47 @@ operand-looked-ok old seen new (Ok found) text place same h = operand-looked old
 operand-looked-ok old seen new (Err none) text place same h = tt
 
 pub ruleset looking = (operand-looked-ok)
+
+-- where no expression begins with the token ahead
+
+quiet-clear : (text : List ℕ) (i : ℕ) → BeginsNothing text i → IsClear text i
+quiet-clear text i nothing = record {
+  words = record {
+    no_async = missed 97 (codes "sync") refl;
+    no_yield = missed 121 (codes "ield") refl;
+    no_delete = missed 100 (codes "elete") refl;
+    no_void = missed 118 (codes "oid") refl;
+    no_typeof = missed 116 (codes "ypeof") refl;
+    no_await = missed 97 (codes "wait") refl;
+    no_super = missed 115 (codes "uper") refl;
+    no_import = missed 105 (codes "mport") refl;
+    no_new = missed 110 (codes "ew") refl;
+    no_function = missed 102 (codes "unction") refl;
+    no_class = missed 99 (codes "lass") refl;
+  };
+  byte = record {
+    some = byte-some (first_byte text i) nothing.byte;
+    small = byte-small (first_byte text i) nothing.byte;
+    no_plus = other 43 refl;
+    no_minus = other 45 refl;
+    no_tilde = other 126 refl;
+    no_bang = other 33 refl;
+    no_angle = other 60 refl;
+    no_parenthesis = other 40 refl;
+  };
+  private_name = nothing.private_name;
+}
+  where
+    other : (c : ℕ) → is_quiet c ≡ false → nat_eq (first_byte text i) c ≡ false
+    other c h = quiet-off (first_byte text i) c nothing.byte h
+
+    missed : (c : ℕ) (cs : List ℕ) → is_quiet c ≡ false → MissesWord text i (c ∷ cs)
+    missed c cs h = word-off text i c cs (other c h)
+
+nothing-begins : (text seen : List ℕ) (mode seen_mode : Mode) (i : ℕ) (s : Position) (at failed k : ℕ) (parts : Parts text) (no_in middle : Bool) → BeginsNothing seen i → seen_mode.typescript ≡ true → seen_mode.assignments ≡ true
+    → seen ≡ text → seen_mode ≡ mode → i ≡ s.place → failed ≡ s.failed → at ≡ (skipped seen i).to → k ≡ max failed at → reads_with_types text mode parts (assign_body no_in middle) s ≡ fails k
+nothing-begins text seen mode seen_mode i s at failed k parts no_in middle nothing m n same same_mode here before to after =
+    fails-known text seen mode seen_mode i (assign_body no_in middle) s at failed k parts
+    ((expression-fails seen seen_mode i (quiet-clear seen i nothing) m n nothing no_in middle).is ∙ ap Fails (sym to)) same same_mode here before after
+
+pub ruleset closing = (nothing-begins)

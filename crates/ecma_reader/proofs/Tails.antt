@@ -20,13 +20,14 @@ use Rattle.ecma_grammar.specs.declared.production.Part.{Part}
 use Rattle.ecma_grammar.specs.declared.production.Part.TheVariants as part
 use Rattle.ecma_reader.specs.Agreement.{position, kept, SameText, Keeps, KeepsAs, parts_in}
 use Rattle.ecma_reader.proofs.Levels.{levels-inside}
-use Rattle.ecma_reader.specs.Operands.{HasOperand, StandsAs, StandsBy, IsQuiet, is_quiet, made_on, tail_on, tails_on}
+use Rattle.ecma_reader.specs.Operands.{HasOperand, NothingOr, StandsAs, StandsBy, IsQuiet, is_quiet, made_on, tail_on, tails_on}
 use Rattle.ecma_grammar.specs.productions.Tails.{Tail, tail, links_tail, tails}
 use Rattle.ecma_grammar.specs.productions.Operators.{updates, factors, terms, shifts, relations, equalities}
 use Rattle.ecma_grammar.specs.productions.Expressions.{assignments}
+use Rattle.ecma_reader.proofs.Quiet.{quiet-is, byte-some, byte-small}
 use Rattle.ecma_reader.proofs.Sights.{sees-passes}
 use Rattle.ecma_reader.proofs.Outlooks.{foreseen, Foresees}
-use Rattle.ecma_reader.proofs.Readings.{front-kept, front-shorter, front-fails, front-deep}
+use Rattle.ecma_reader.proofs.Readings.{front-all, front-kept, front-shorter, front-fails, front-deep}
 
 -- one tail was read
 
@@ -59,21 +60,6 @@ built-counts [] x (suc n) h = absurd (omega (arith, h))
 built-counts (y ∷ ys) x (suc n) h = let rest = built-counts ys x n (omega (arith, h)) in omega (arith, rest)
 
 -- where no operator stands
-
-quiet-is : (byte : ℕ) (P : ℕ → Type 0) → is_quiet byte ≡ true → P 44 → P 41 → P 93 → P 125 → P 59 → P 58 → P byte
-quiet-is byte P h a b c d e f = go (nat_eq byte 44) refl (nat_eq byte 41) refl (nat_eq byte 93) refl (nat_eq byte 125) refl (nat_eq byte 59) refl (nat_eq byte 58) refl
-  where
-    same : (n : ℕ) → nat_eq byte n ≡ true → P n → P byte
-    same n e p = let is : n ≡ byte = grind arith in subst P is p
-
-    go : (x₁ : Bool) → nat_eq byte 44 ≡ x₁ → (x₂ : Bool) → nat_eq byte 41 ≡ x₂ → (x₃ : Bool) → nat_eq byte 93 ≡ x₃ → (x₄ : Bool) → nat_eq byte 125 ≡ x₄ → (x₅ : Bool) → nat_eq byte 59 ≡ x₅ → (x₆ : Bool) → nat_eq byte 58 ≡ x₆ → P byte
-    go true e₁ x₂ e₂ x₃ e₃ x₄ e₄ x₅ e₅ x₆ e₆ = same 44 e₁ a
-    go false e₁ true e₂ x₃ e₃ x₄ e₄ x₅ e₅ x₆ e₆ = same 41 e₂ b
-    go false e₁ false e₂ true e₃ x₄ e₄ x₅ e₅ x₆ e₆ = same 93 e₃ c
-    go false e₁ false e₂ false e₃ true e₄ x₅ e₅ x₆ e₆ = same 125 e₄ d
-    go false e₁ false e₂ false e₃ false e₄ true e₅ x₆ e₆ = same 59 e₅ e
-    go false e₁ false e₂ false e₃ false e₄ false e₅ true e₆ = same 58 e₆ f
-    go false e₁ false e₂ false e₃ false e₄ false e₅ false e₆ = absurd (let wrong : is_quiet byte ≡ false = rw (e₁, e₂, e₃, e₄, e₅, e₆) refl in cc)
 
 abbrev AllPass : ℕ → List Tail → Type 0
 AllPass byte ts = map (λ t. sight byte t.grammar) ts ≡ map (λ t. passes) ts
@@ -135,12 +121,6 @@ ends-in (y ∷ z ∷ zs) zero e = absurd (omega (arith, e))
 ends-in (y ∷ z ∷ zs) (suc n) e =
     let rest = ends-in (z ∷ zs) n (omega (arith, e)) in
     record { front = y ∷ rest.front; node = rest.node; whole = ap (λ l. y ∷ l) rest.whole; count = ap suc rest.count }
-
-byte-some : (byte : ℕ) → is_quiet byte ≡ true → 0 < byte
-byte-some byte h = quiet-is byte (λ b. 0 < b) h (omega arith) (omega arith) (omega arith) (omega arith) (omega arith) (omega arith)
-
-byte-small : (byte : ℕ) → is_quiet byte ≡ true → byte < 128
-byte-small byte h = quiet-is byte (λ b. b < 128) h (omega arith) (omega arith) (omega arith) (omega arith) (omega arith) (omega arith)
 
 behind-quiet : (old new : Reader) (operand : Operand) (no_in middle : Bool) (parts : Parts old.text.now) → IsQuiet old new operand no_in → kept new ≡ kept old
     → tails_on old.text.now old.mode parts operand (tails no_in middle) (read (kept old) (position old)) ≡ read (kept new) (position new)
@@ -298,3 +278,16 @@ operand-keeps old mid new operand result left inside at no_in middle some one ha
     go (Err NoMatch) h = (front-fails (kept old) (parts_in old left (part.Assign no_in middle) at (position old)) new.failed (is ∙ h.0), front (kept new) h.1)
     go (Err (TooDeep d)) h = front-deep (kept old) (parts_in old left (part.Assign no_in middle) at (position old)) d (is ∙ h)
     go (Err NoMemory) h = tt
+
+-- no expression was read, since none begins there
+pub nothing-keeps : (old new : Reader) (found : Bool) (left at : ℕ) (no_in middle : Bool) → left ≢ zero → found ≡ true → SameText old new → NothingOr old new found → Keeps old new (Err NoMatch) (parts_in old left (part.Assign no_in middle) at)
+nothing-keeps old new found left at no_in middle some is text h = (
+  text,
+  (
+    levels-inside old.text.now old.mode left (part.Assign no_in middle) at (position old) some ∙ nothing.1 (parts_in old (left - 1)) no_in middle,
+    subst (λ ys. take (length (kept old)) ys ≡ kept old) (sym nothing.0) (front-all (kept old)),
+  ),
+)
+  where
+    nothing : NothingOr old new true
+    nothing = subst (λ b. NothingOr old new b) is h

@@ -16,7 +16,7 @@ use Rattle.ecma_reader.specs.declared.reader.operands.Operand.{Operand}
 use Rattle.ecma_grammar.specs.Reading.{Position, Outcome, read, fails, too_deep, with_front, followed_on}
 use Rattle.ecma_grammar.specs.Made.{made_with_types}
 use Rattle.ecma_grammar.specs.Reads.{Parts, reads_with_types, kept_leaf, next_start}
-use Rattle.ecma_reader.specs.Outlook.{Fails, found_outlook, kind_outlook, word_outlook}
+use Rattle.ecma_reader.specs.Outlook.{Fails, found_outlook, kind_outlook, leaf_outlook, word_outlook}
 use Rattle.ecma_reader.specs.FirstByte.{first_byte}
 use Rattle.ecma_reader.specs.Agreement.{position, kept, SameText}
 use Rattle.ecma_grammar.specs.productions.Tails.{Tail, links_tail, tails}
@@ -74,6 +74,17 @@ pub record IsClear (text : List ℕ) (i : ℕ) : Type 0 where
   pub byte : OpensLeaf (first_byte text i)
   pub private_name : Misses text i token_kind.PrivateName
 
+-- the first byte of a token behind which no operator stands: `,`, `)`, `]`, `}`, `;` or `:`
+abbrev pub is_quiet : ℕ → Bool
+is_quiet byte = byte == 44 || (byte == 41 || (byte == 93 || (byte == 125 || (byte == 59 || byte == 58))))
+
+-- the token ahead begins with such a byte: no expression begins with it
+pub record BeginsNothing (text : List ℕ) (i : ℕ) : Type 0 where
+  pub byte : is_quiet (first_byte text i) ≡ true
+  pub name : Misses text i token_kind.Name
+  pub private_name : Misses text i token_kind.PrivateName
+  pub regex : leaf_outlook text i leaf.Regex ≡ Fails (skipped text i).to
+
 -- of what may be the operand nothing stands ahead that is asked for before a leaf
 pub record MissesLiterals (text : List ℕ) (i : ℕ) : Type 0 where
   pub no_this : MissesWord text i (codes "this")
@@ -125,6 +136,12 @@ abbrev pub OperandOr : Reader → Reader → Option Operand → Type 0
 OperandOr old new None = (position new ≡ position old) × (kept new ≡ kept old)
 OperandOr old new (Some operand) = HasOperand old.text.now old.mode (position old) (kept old) new operand
 
+-- no expression begins with the token ahead, and that is marked; or nothing changed
+abbrev pub NothingOr : Reader → Reader → Bool → Type 0
+NothingOr old new true =
+    (kept new ≡ kept old) × ((parts : Parts old.text.now) (no_in middle : Bool) → reads_with_types old.text.now old.mode parts (assign_body no_in middle) (position old) ≡ fails new.failed)
+NothingOr old new false = (position new ≡ position old) × (kept new ≡ kept old)
+
 -- what stands behind an operand was read, and is all kept; on a failure more may be kept behind what was kept before the operand
 abbrev pub StandsBy : Operand → Reader → Reader → Result Unit Failure → Outcome (List Node) → Type 0
 StandsBy operand old new (Ok x) outcome = (outcome ≡ read (kept new) (position new)) × ((operand.count ≤ length (kept new)) × (take operand.count (kept new) ≡ take operand.count (kept old)))
@@ -134,10 +151,6 @@ StandsBy operand old new (Err NoMemory) outcome = Unit {0}
 
 abbrev pub StandsAs : Operand → Reader → Reader → Result Unit Failure → Outcome (List Node) → Type 0
 StandsAs operand old new result outcome = SameText old new × StandsBy operand old new result outcome
-
--- the first byte of a token behind which no operator stands: `,`, `)`, `]`, `}`, `;` or `:`
-abbrev pub is_quiet : ℕ → Bool
-is_quiet byte = byte == 44 || (byte == 41 || (byte == 93 || (byte == 125 || (byte == 59 || byte == 58))))
 
 -- such a token stands ahead of an operand that is one node, while all TypeScript is read and `in` is an operator; and that no operator stands there is marked
 pub record IsQuiet (old new : Reader) (operand : Operand) (no_in : Bool) : Type 0 where

@@ -10,8 +10,9 @@ use ecma_grammar::{
 };
 use ecma_tree::NoMemory;
 
-/// Reads a part, where so many levels more are allowed; a use that is too deep is told at a place. An assignment expression that is seen to begin with a
-/// leaf is read from there on: none of what may stand before a first operand is tried, and its levels of operators are read one behind the other.
+/// Reads a part, where so many levels more are allowed; a use that is too deep is told at a place. An assignment expression fails at once where none is
+/// seen to begin. One that is seen to begin with a leaf is read from there on: none of what may stand before a first operand is tried, and its levels of
+/// operators are read one behind the other.
 #[tactic(auto, using(crate::proofs::Levels::entering))]
 #[cycle(levels)]
 pub(crate) fn read_part(
@@ -39,6 +40,9 @@ pub(crate) fn read_part(
         left,
     };
     if let Part::Assign { no_in, middle } = part {
+        if reader.begins_nothing() {
+            return Err(Failure::NoMatch);
+        }
         if let Some(operand) = reader.keep_operand()? {
             return machine.read_behind(reader, operand, no_in, middle);
         }

@@ -1,5 +1,6 @@
 //! The first operand of an assignment expression, where it is a leaf: a name with which no arrow function begins, a string, a number, `this`, `null`, `true`
-//! or `false`. All that an expression may have before its first operand is told by a few words and by the first byte of the token ahead.
+//! or `false`. All that an expression may have before its first operand is told by a few words and by the first byte of the token ahead; so is that none
+//! begins there.
 ghost use Rattle.std.specs.Prelude.{◌≡◌, IsTrue};
 ghost use Rattle.ecma_reader.specs.Operands.{OpensLeaf, is_quiet};
 
@@ -43,8 +44,8 @@ impl Reader<'_> {
     ghost use Rattle.ecma_reader.specs.Outlook.{Fails};
     ghost use Rattle.ecma_grammar.specs.declared.production.Leaf.TheVariants as Leaf;
     ghost use Rattle.ecma_grammar.specs.declared.production.TokenKind.TheVariants as TokenKind;
-    ghost use Rattle.ecma_reader.specs.Outlook.{found_outlook};
-    ghost use Rattle.ecma_reader.specs.Operands.{Begins, IsClear, IsQuiet, KeptOr, Leads, Misses, MissesWord, OperandOr, MissesFrontWords, MissesLiterals, PassesArrow};
+    ghost use Rattle.ecma_reader.specs.Outlook.{found_outlook, leaf_outlook};
+    ghost use Rattle.ecma_reader.specs.Operands.{Begins, BeginsNothing, IsClear, IsQuiet, KeptOr, Leads, Misses, MissesWord, OperandOr, MissesFrontWords, MissesLiterals, NothingOr, PassesArrow};
     ghost use Rattle.ecma_reader.specs.Agreement.{position, kept, SameText};
 
     /// Whether a word is not the token that stands ahead.
@@ -107,6 +108,51 @@ impl Reader<'_> {
         if !self.misses_word("class") {
             return false;
         }
+        true
+    }
+
+    /// Whether no expression begins with the token ahead.
+    fn is_closing(&self) -> bool
+        requires { self.now.ahead.place ≡ self.now.place }
+        ensures { IsTrue result → BeginsNothing self.now.text.now self.now.place }
+    {
+        if !is_quiet(self.first) {
+            return false;
+        }
+        if !self.misses(TokenKind::Name) {
+            return false;
+        }
+        if !self.misses(TokenKind::PrivateName) {
+            return false;
+        }
+        if !self.misses_regex() {
+            return false;
+        }
+        true
+    }
+
+    /// Whether no regular expression stands ahead.
+    fn misses_regex(&self) -> bool
+        requires { self.now.ahead.place ≡ self.now.place }
+        ensures { IsTrue result → leaf_outlook self.now.text.now self.now.place Leaf.Regex ≡ Fails (skipped self.now.text.now self.now.place).to }
+    {
+        match self.regex_failure() {
+            Some(at) => at == self.ahead.skipped().to,
+            None => false,
+        }
+    }
+
+    /// Whether no assignment expression begins with the token ahead; then it is marked that none does.
+    #[tactic(auto, using(crate::proofs::Operands::closing))]
+    pub(crate) fn begins_nothing(&mut self) -> bool
+        ensures text { SameText self.old self.new }
+        ensures nothing { NothingOr self.old self.new result }
+    {
+        self.look();
+        if !self.mode.typescript || !self.mode.assignments || !self.is_closing() {
+            return false;
+        }
+        self.failed = self.failed.max(self.ahead.skipped().to);
         true
     }
 

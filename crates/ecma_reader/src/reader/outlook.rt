@@ -141,7 +141,7 @@ impl Reader<'_> {
         }
     }
 
-    fn regex_failure(&self) -> Option<u32>
+    pub(super) fn regex_failure(&self) -> Option<u32>
         requires { self.now.ahead.place ≡ self.now.place }
         ensures { outlook_of result ≡ leaf_outlook self.now.text.now self.now.place Leaf.Regex }
     {
