@@ -30,14 +30,15 @@ second_is : (a b : Bool) → b ≡ true → (a || b) ≡ true
 second_is true b h = refl
 second_is false b h = h
 
-module _ (ctx : ExprCtx) (id : Id) (unresolved : (id.ctxt == ctx.unresolved_ctxt) ≡ true) where
-  contrary : (b : Bool) → b ≡ true → not b ≡ true → ⊥
-  contrary true h g = false≢true g
-  contrary false h g = false≢true h
+-- a truth and its contrary are not both true
+pub not_both : (b : Bool) → b ≡ true → not b ≡ true → ⊥
+not_both true h g = false≢true g
+not_both false h g = false≢true h
 
+module _ (ctx : ExprCtx) (id : Id) (unresolved : (id.ctxt == ctx.unresolved_ctxt) ≡ true) where
   differs : (other : Id) → not (other.ctxt == ctx.unresolved_ctxt) ≡ true → (b : Bool) → same_id other id ≡ b → b ≡ false
   differs other d false e = refl
-  differs other d true e = absurd (contrary (id.ctxt == ctx.unresolved_ctxt) unresolved (subst (λ (z : Id). not (z.ctxt == ctx.unresolved_ctxt) ≡ true) (same_id-equal other id e) d))
+  differs other d true e = absurd (not_both (id.ctxt == ctx.unresolved_ctxt) unresolved (subst (λ (z : Id). not (z.ctxt == ctx.unresolved_ctxt) ≡ true) (same_id-equal other id e) d))
 
   none_among : (ids : List Id) → list_all (λ (z : Id). not (z.ctxt == ctx.unresolved_ctxt)) ids ≡ true → is_among id ids ≡ false
   none_among [] d = refl

@@ -25,7 +25,7 @@ use Rattle.ecma_run_places.proofs.Nodes.{means_alike}
 use Rattle.ecma_extract_runs.specs.Evaluated.{evaluated}
 use Rattle.ecma_extract_runs.specs.Fits.{is_single, single_by, item_by, is_item, fits_by, fits_step, fits}
 use Rattle.ecma_extract_runs.proofs.Leading.{Leads, led_end, undone_end, outside_leads, alike_leads}
-use Rattle.ecma_extract_runs.proofs.Dates.{both_true}
+use Rattle.ecma_extract_runs.proofs.Dates.{both_true, not_both}
 use Rattle.ecma_extract_runs.proofs.References.{bounded_end}
 use Rattle.ecma_extract_runs.proofs.ByKind.{Claim, opens_by, opens, Here, Child, nodes, meanings, keeps}
 use Rattle.ecma_extract_runs.proofs.ByRole.{role_claim}
@@ -151,11 +151,7 @@ module _ (ctx : ExprCtx) (n : Node) where
 
   item_effect : (k : Kind) (ns : List Node) (ms : List Meaning) → has_no_effect k ms ≡ true → item_by k ns (single_by k ms) ≡ true → ⊥
   item_effect kind.List ns ms e h = false≢true e
-  item_effect k ns ms e h = contrary (has_no_effect k ms) e (both_true (not (has_no_effect k ms)) (is_single k) h).0
-    where
-      contrary : (b : Bool) → b ≡ true → not b ≡ true → ⊥
-      contrary true h g = false≢true g
-      contrary false h g = false≢true h
+  item_effect k ns ms e h = not_both (has_no_effect k ms) e (both_true (not (has_no_effect k ms)) (is_single k) h).0
 
   opens_effect : (k : Kind) (ns : List Node) (ms : List Meaning) → has_no_effect k ms ≡ true → opens_by k ns ≡ true → ⊥
   opens_effect kind.SpreadElement ns ms e h = false≢true e
