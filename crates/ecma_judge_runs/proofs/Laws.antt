@@ -31,9 +31,10 @@ use Rattle.ecma_judge_runs.proofs.IdleCalls.{function_called_on, call_function_l
 use Rattle.ecma_judge_runs.proofs.Nodes.{claim}
 use Rattle.ecma_judge_runs.proofs.ValuedNodes.{valued}
 use Rattle.ecma_judge_runs.proofs.Steady.{steady}
+use Rattle.ecma_judge_runs.proofs.Asking.{IsTaken, taken_asks}
 
 -- what leaves all as it was from a state leaves that state as it was
-still_behind : {A : Type 0} (m : Run A) (s : State) → Leaves s m → Still s (state_behind (m s))
+pub still_behind : {A : Type 0} (m : Run A) (s : State) → Leaves s m → Still s (state_behind (m s))
 still_behind m s h = behind s (λ a. Unit {0}) (m s) (h.at s (still_itself s))
 
 pub what_has_no_effects_is_still : WhatHasNoEffectsIsStill
@@ -47,13 +48,13 @@ pub what_is_known_is_so : WhatIsKnownIsSo
 what_is_known_is_so ctx objects e x s t v known apart told done = gave_done (IsAsJudged (judged ctx e)) ((meaning e).value x s) v t done (((valued ctx objects x known apart e).value told).at s)
 
 pub what_is_pure_is_still : WhatIsPureIsStill
-what_is_pure_is_still ctx sure e x s off apart so whole pure = still_behind ((meaning e).value x) s (((steady ctx sure off x apart so.globals so.calls e).truth whole pure).leaves s)
+what_is_pure_is_still ctx sure e x s off apart so whole pure = still_behind ((meaning e).value x) s (((steady ctx (IsTaken ctx sure x) x (taken_asks ctx sure off x apart so.globals so.calls) e).truth whole pure).leaves s)
 
 pub what_is_a_pure_number_is_still : WhatIsAPureNumberIsStill
-what_is_a_pure_number_is_still ctx sure e x s off apart so whole pure = still_behind ((meaning e).value x) s (((steady ctx sure off x apart so.globals so.calls e).number whole pure).leaves s)
+what_is_a_pure_number_is_still ctx sure e x s off apart so whole pure = still_behind ((meaning e).value x) s (((steady ctx (IsTaken ctx sure x) x (taken_asks ctx sure off x apart so.globals so.calls) e).number whole pure).leaves s)
 
 pub what_has_a_known_text_is_still : WhatHasAKnownTextIsStill
-what_has_a_known_text_is_still ctx sure e x text s off apart so whole known = still_behind ((meaning e).value x) s ((steady ctx sure off x apart so.globals so.calls e).text whole text known s).0
+what_has_a_known_text_is_still ctx sure e x text s off apart so whole known = still_behind ((meaning e).value x) s ((steady ctx (IsTaken ctx sure x) x (taken_asks ctx sure off x apart so.globals so.calls) e).text whole text known s).0
 
 -- ---- pure callees
 

@@ -30,4 +30,12 @@ pub mod ValuedNodes
 pub mod Idle
 pub mod Purities
 pub mod Steady
+pub mod Shapes
+pub mod Sorted
+pub mod ValuedShapes
+pub mod Asking
+pub mod Settling
+pub mod Joined
+pub mod Numbered
 pub mod Laws
+pub mod OfModules

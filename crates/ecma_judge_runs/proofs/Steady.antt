@@ -39,22 +39,16 @@ use Rattle.ecma_runs.specs.Operators.{total, number_from, unary_value}
 use Rattle.ecma_runs.specs.Expressions.{binary_rest, all_elements}
 use Rattle.ecma_runs.proofs.Layer.{meaning-roll}
 use Rattle.std.specs.Prelude.{bit_and, bit_or}
-use Rattle.ecma_judge_runs.specs.Called.{Assumed, AppliesFunctions}
-use Rattle.ecma_judge_runs.specs.Taken.{Taken, all_whole, is_taken_by, taken, is_taken}
-use Rattle.ecma_judge_runs.specs.Known.{HasTruth, HasNumber, HasText, HasType, IsAsJudged, declares_no_global}
+use Rattle.ecma_judge_runs.specs.Known.{HasTruth, HasNumber, HasText, HasType, IsAsJudged}
 use Rattle.ecma_judge_runs.proofs.Leaving.{Follows, LeavesBy, Leaves, bind_by, bind_leaves, give_leaves, outside_leaves, given_leaves}
 use Rattle.ecma_judge_runs.proofs.Giving.{Gave, GivesBy, bind_gives, then_gives, any_gives, weaker_gives, give_gives, outside_gives}
 use Rattle.ecma_judge_runs.proofs.Literals.{Fits, apart_from}
-use Rattle.ecma_judge_runs.proofs.Both.{both_true}
 use Rattle.ecma_judge_runs.proofs.Objects.{new_array_leaves}
 use Rattle.ecma_judge_runs.proofs.Reading.{applied_leaves}
 use Rattle.ecma_judge_runs.proofs.Differences.{pure_number, difference_fits, quotient_fits, numbers_by, and_fits_bits, or_fits_bits}
 use Rattle.ecma_judge_runs.proofs.Values.{not_truth, pure_truth, not_has_number, array_has_number, or_left, or_right, and_left, and_right, common_left, common_right}
 use Rattle.ecma_judge_runs.proofs.Purities.{none_of, is_pure_of, both_pure, or_pure, and_pure, unsafe_none, Readable, truth_readable, number_readable, text_readable, undefined_readable, bang_pure, bang_text_pure, void_pure, minus_pure, infinity_none, followed_known}
-use Rattle.ecma_judge_runs.proofs.Meanings.{Apart, taken-roll}
-use Rattle.ecma_judge_runs.proofs.Nodes.{claim, effects-roll}
-use Rattle.ecma_judge_runs.proofs.ValuedNodes.{valued}
-use Rattle.ecma_judge_runs.proofs.Idle.{idle_valued}
+use Rattle.ecma_judge_runs.proofs.Nodes.{effects-roll}
 
 -- ---- what is left as it was, with what is given
 
@@ -69,9 +63,32 @@ follows_gave old Q (Ended why s) f g = f
 leaves_giving : {A : Type 0} (old : State) {Q : A → Type 0} {m : Run A} → Leaves old m → GivesBy Q m → LeavesBy old Q m
 leaves_giving old {Q = Q} {m = m} h g = record { at = λ s still. follows_gave old Q (m s) (h.at s still) (g.at s) }
 
+-- ---- what is asked
+
+-- kinds of which a truth, a Number or a text may be told from the children
+abbrev pub is_parted : Kind → Bool
+is_parted kind.ParenExpr = true
+is_parted (kind.UnaryExpr op) = true
+is_parted (kind.BinExpr op) = true
+is_parted kind.SeqExpr = true
+is_parted kind.ArrayLit = true
+is_parted kind.List = true
+is_parted k = false
+
+abbrev pub EachOf : (Node → Type 0) → List Node → Type 0
+EachOf Asked [] = Unit {0}
+EachOf Asked (n ∷ ns) = Asked n × EachOf Asked ns
+
+-- what is asked of a node is so of its children where these tell something, and a node without effects of which it is so leaves all as it was, and gives what is judged of it
+pub record Asks (ctx : ExprCtx) (x : ExecutionContext) (Asked : Node → Type 0) : Type 0 where
+  pub below : (n : Node) → Asked n → is_parted (out-Node n).kind ≡ true → EachOf Asked (out-Node n).children
+  pub leaves : (n : Node) → Asked n → (judged ctx n).effects ≡ false → (old : State) → Leaves old ((meaning n).value x)
+  pub elements : (n : Node) → Asked n → (judged ctx n).effects ≡ false → (old : State) → Leaves old ((meaning n).elements x)
+  pub gives : (n : Node) → Asked n → (judged ctx n).effects ≡ false → GivesBy (IsAsJudged (judged ctx n)) ((meaning n).value x)
+
 -- ---- each node
 
-module _ (ctx : ExprCtx) (sure : Assumed) (x : ExecutionContext) where
+module _ (ctx : ExprCtx) (Asked : Node → Type 0) (x : ExecutionContext) where
   -- it leaves all as it was, and gives such a value
   pub record Told (P : Value → Type 0) (m : Run Value) : Type 0 where
     pub leaves : (old : State) → Leaves old m
@@ -81,10 +98,10 @@ module _ (ctx : ExprCtx) (sure : Assumed) (x : ExecutionContext) where
   AsTruth j v = HasTruth j.truth.1 v × HasType j.type v
 
   pub record Steady (n : Node) : Type 0 where
-    pub truth : is_taken ctx x.known.declared sure n ≡ true → (judged ctx n).truth.0 ≡ Pure → Told (AsTruth (judged ctx n)) ((meaning n).value x)
-    pub number : is_taken ctx x.known.declared sure n ≡ true → (judged ctx n).number.0 ≡ Pure → Told (HasNumber (judged ctx n).number.1) ((meaning n).value x)
-    pub text : is_taken ctx x.known.declared sure n ≡ true → (t : List ℕ) → (judged ctx n).text ≡ Known t → (old : State) → Leaves old ((meaning n).value x) × Leaves old ((meaning n).elements x)
-    pub element : is_taken ctx x.known.declared sure n ≡ true → (t : List ℕ) → (judged ctx n).element ≡ Known t → (old : State) → Leaves old ((meaning n).elements x)
+    pub truth : Asked n → (judged ctx n).truth.0 ≡ Pure → Told (AsTruth (judged ctx n)) ((meaning n).value x)
+    pub number : Asked n → (judged ctx n).number.0 ≡ Pure → Told (HasNumber (judged ctx n).number.1) ((meaning n).value x)
+    pub text : Asked n → (t : List ℕ) → (judged ctx n).text ≡ Known t → (old : State) → Leaves old ((meaning n).value x) × Leaves old ((meaning n).elements x)
+    pub element : Asked n → (t : List ℕ) → (judged ctx n).element ≡ Known t → (old : State) → Leaves old ((meaning n).elements x)
 
   abbrev SteadyNode : Type 0
   SteadyNode = (n : Node) × Steady n
@@ -98,8 +115,9 @@ module _ (ctx : ExprCtx) (sure : Assumed) (x : ExecutionContext) where
   abbrev judgements : List SteadyNode → List Judged
   judgements ns = map (judged ctx) (nodes ns)
 
-  abbrev takens : List SteadyNode → List Taken
-  takens ns = map (taken ctx x.known.declared sure) (nodes ns)
+  -- what is asked of the children of a node of this kind
+  abbrev AskedBelow : Kind → List SteadyNode → Type 0
+  AskedBelow k ns = is_parted k ≡ true → EachOf Asked (nodes ns)
 
   abbrev effects_here : Node → Kind → List SteadyNode → Bool
   effects_here n k ns = not (pure_callee_by ctx k n) && effects_by ctx k n (judgements ns)
@@ -167,7 +185,7 @@ module _ (ctx : ExprCtx) (sure : Assumed) (x : ExecutionContext) where
         }
     and_rest v true is h (inl known) hr = absurd (apart_from (truth_of v) is (subst (λ z. HasTruth z v) known h.0))
 
-  binary_truth : (op : BinaryOp) (n : Node) (l r : SteadyNode) → (is_taken ctx x.known.declared sure l.0 ≡ true) × (is_taken ctx x.known.declared sure r.0 ≡ true)
+  binary_truth : (op : BinaryOp) (n : Node) (l r : SteadyNode) → Asked l.0 × Asked r.0
       → IfCalm n (kind.BinExpr op) (l ∷ r ∷ []) → (truth_by ctx (own_here n (kind.BinExpr op) (l ∷ r ∷ [])) (kind.BinExpr op) n (judged ctx l.0 ∷ judged ctx r.0 ∷ [])).0 ≡ Pure
       → Told (TruthHere n (kind.BinExpr op) (l ∷ r ∷ [])) ((meant n (kind.BinExpr op) (l ∷ r ∷ [])).value x)
   unfolding truth_by type_by
@@ -225,7 +243,7 @@ module _ (ctx : ExprCtx) (sure : Assumed) (x : ExecutionContext) where
       }
   binary_truth op n l r t calm is = calm_truth n (kind.BinExpr op) (l ∷ r ∷ []) (calm (none_of (effects_here n (kind.BinExpr op) (l ∷ r ∷ [])) is))
 
-  unary_truth : (op : UnaryOp) (n : Node) (e : SteadyNode) → is_taken ctx x.known.declared sure e.0 ≡ true
+  unary_truth : (op : UnaryOp) (n : Node) (e : SteadyNode) → Asked e.0
       → IfCalm n (kind.UnaryExpr op) (e ∷ []) → (truth_by ctx (own_here n (kind.UnaryExpr op) (e ∷ [])) (kind.UnaryExpr op) n (judged ctx e.0 ∷ [])).0 ≡ Pure
       → Told (TruthHere n (kind.UnaryExpr op) (e ∷ [])) ((meant n (kind.UnaryExpr op) (e ∷ [])).value x)
   unfolding truth_by type_by
@@ -236,18 +254,18 @@ module _ (ctx : ExprCtx) (sure : Assumed) (x : ExecutionContext) where
       }
   unary_truth op n e t calm is = calm_truth n (kind.UnaryExpr op) (e ∷ []) (calm (none_of (effects_here n (kind.UnaryExpr op) (e ∷ [])) is))
 
-  layer_truth : (n : Node) (k : Kind) (ns : List SteadyNode) → is_taken_by ctx x.known.declared sure k (takens ns) ≡ true → IfCalm n k ns
+  layer_truth : (n : Node) (k : Kind) (ns : List SteadyNode) → AskedBelow k ns → IfCalm n k ns
       → (truth_by ctx (own_here n k ns) k n (judgements ns)).0 ≡ Pure → Told (TruthHere n k ns) ((meant n k ns).value x)
   unfolding truth_by type_by effects_by access_effects_by part_effects_by pure_callee_by
   layer_truth n (kind.Ident name ctxt optional) ns t calm is =
       calm_truth n (kind.Ident name ctxt optional) ns (calm (name_effects n name ctxt optional ns
       (truth_readable (ctxt == ctx.unresolved_ctxt) name (own_here n (kind.Ident name ctxt optional) ns) (ctxt == ctx.unresolved_ctxt && is_false_name name) refl is)))
   layer_truth n kind.ParenExpr (e ∷ []) t calm is =
-      let h = e.1.truth (both_true (is_taken ctx x.known.declared sure e.0) true t).0 is in record { leaves = h.leaves; gives = weaker_gives (λ v g. (g.0, tt)) h.gives }
-  layer_truth n (kind.UnaryExpr op) (e ∷ []) t calm is = unary_truth op n e (both_true (is_taken ctx x.known.declared sure e.0) true t).0 calm is
+      let h = e.1.truth (t refl).0 is in record { leaves = h.leaves; gives = weaker_gives (λ v g. (g.0, tt)) h.gives }
+  layer_truth n (kind.UnaryExpr op) (e ∷ []) t calm is = unary_truth op n e (t refl).0 calm is
   layer_truth n (kind.BinExpr op) (l ∷ r ∷ []) t calm is =
-      let a = both_true (is_taken ctx x.known.declared sure l.0) (is_taken ctx x.known.declared sure r.0 && true) t in
-      binary_truth op n l r (a.0, (both_true (is_taken ctx x.known.declared sure r.0) true a.1).0) calm is
+      let a = t refl in
+      binary_truth op n l r (a.0, a.1.0) calm is
   layer_truth n kind.ParenExpr ns t calm is = outside_told _
   layer_truth n (kind.UnaryExpr op) ns t calm is = outside_told _
   layer_truth n (kind.BinExpr op) ns t calm is = outside_told _
@@ -266,7 +284,7 @@ module _ (ctx : ExprCtx) (sure : Assumed) (x : ExecutionContext) where
   array_leaves : (old : State) (elements : Meaning) → Leaves old (elements.elements x) → Leaves old (elements.elements x >>= λ es. new_array es >>= λ o. give (Own o))
   array_leaves old elements h = bind_leaves old h (λ es. bind_leaves old (new_array_leaves old es) (λ o. give_leaves old (Own o)))
 
-  array_told : (n : Node) (e : SteadyNode) → is_taken ctx x.known.declared sure e.0 ≡ true → IfCalm n kind.ArrayLit (e ∷ []) → (text : KnownOr (List ℕ)) → (judged ctx e.0).text ≡ text
+  array_told : (n : Node) (e : SteadyNode) → Asked e.0 → IfCalm n kind.ArrayLit (e ∷ []) → (text : KnownOr (List ℕ)) → (judged ctx e.0).text ≡ text
       → (array_number (own_here n kind.ArrayLit (e ∷ [])) text).0 ≡ Pure
       → Told (λ v. HasNumber (array_number (own_here n kind.ArrayLit (e ∷ [])) text).1 v) ((meant n kind.ArrayLit (e ∷ [])).value x)
   array_told n e t calm (Known text) known is = record {
@@ -275,7 +293,7 @@ module _ (ctx : ExprCtx) (sure : Assumed) (x : ExecutionContext) where
   }
   array_told n e t calm Unknown known is = record { leaves = (calm (none_of (effects_here n kind.ArrayLit (e ∷ [])) is)).leaves; gives = any_gives (λ v. tt) }
 
-  unary_number : (op : UnaryOp) (n : Node) (e : SteadyNode) → (out-Node n).children ≡ e.0 ∷ [] → is_taken ctx x.known.declared sure e.0 ≡ true
+  unary_number : (op : UnaryOp) (n : Node) (e : SteadyNode) → (out-Node n).children ≡ e.0 ∷ [] → Asked e.0
       → IfCalm n (kind.UnaryExpr op) (e ∷ []) → (number_by ctx (own_here n (kind.UnaryExpr op) (e ∷ [])) (kind.UnaryExpr op) n (judged ctx e.0 ∷ [])).0 ≡ Pure
       → Told (NumberHere n (kind.UnaryExpr op) (e ∷ [])) ((meant n (kind.UnaryExpr op) (e ∷ [])).value x)
   unfolding number_by effects_by pure_callee_by
@@ -291,7 +309,7 @@ module _ (ctx : ExprCtx) (sure : Assumed) (x : ExecutionContext) where
   unary_number operator.Void n e shape t calm is = calm_number n (kind.UnaryExpr operator.Void) (e ∷ []) (calm (none_of (effects_here n (kind.UnaryExpr operator.Void) (e ∷ [])) is))
   unary_number op n e shape t calm is = absurd (cc)
 
-  layer_number : (n : Node) (k : Kind) (ns : List SteadyNode) → (out-Node n).children ≡ nodes ns → is_taken_by ctx x.known.declared sure k (takens ns) ≡ true → IfCalm n k ns
+  layer_number : (n : Node) (k : Kind) (ns : List SteadyNode) → (out-Node n).children ≡ nodes ns → AskedBelow k ns → IfCalm n k ns
       → (number_by ctx (own_here n k ns) k n (judgements ns)).0 ≡ Pure → Told (NumberHere n k ns) ((meant n k ns).value x)
   unfolding number_by effects_by pure_callee_by
   layer_number n (kind.Ident name ctxt optional) ns shape t calm is =
@@ -303,9 +321,9 @@ module _ (ctx : ExprCtx) (sure : Assumed) (x : ExecutionContext) where
   layer_number n (kind.Str value raw) ns shape t calm is = calm_number n (kind.Str value raw) ns (calm refl)
   layer_number n (kind.BigInt value raw) ns shape t calm is = calm_number n (kind.BigInt value raw) ns (calm refl)
   layer_number n (kind.Regex exp flags) ns shape t calm is = calm_number n (kind.Regex exp flags) ns (calm refl)
-  layer_number n kind.ArrayLit (e ∷ []) shape t calm is = array_told n e (both_true (is_taken ctx x.known.declared sure e.0) true t).0 calm (judged ctx e.0).text refl is
+  layer_number n kind.ArrayLit (e ∷ []) shape t calm is = array_told n e (t refl).0 calm (judged ctx e.0).text refl is
   layer_number n kind.ArrayLit ns shape t calm is = outside_told _
-  layer_number n (kind.UnaryExpr op) (e ∷ []) shape t calm is = unary_number op n e shape (both_true (is_taken ctx x.known.declared sure e.0) true t).0 calm is
+  layer_number n (kind.UnaryExpr op) (e ∷ []) shape t calm is = unary_number op n e shape (t refl).0 calm is
   layer_number n (kind.UnaryExpr op) ns shape t calm is = outside_told _
   layer_number n k ns shape t calm is = absurd (cc)
 
@@ -320,7 +338,7 @@ module _ (ctx : ExprCtx) (sure : Assumed) (x : ExecutionContext) where
   as_element : (old : State) (m : Run Value) → Leaves old m → Leaves old (m >>= λ v. give (Some v ∷ []))
   as_element old m h = bind_leaves old h (λ v. give_leaves old (Some v ∷ []))
 
-  unary_text : (op : UnaryOp) (n : Node) (e : SteadyNode) → is_taken ctx x.known.declared sure e.0 ≡ true → IfCalm n (kind.UnaryExpr op) (e ∷ []) → (t : List ℕ)
+  unary_text : (op : UnaryOp) (n : Node) (e : SteadyNode) → Asked e.0 → IfCalm n (kind.UnaryExpr op) (e ∷ []) → (t : List ℕ)
       → text_by ctx (own_here n (kind.UnaryExpr op) (e ∷ [])) (kind.UnaryExpr op) (judged ctx e.0 ∷ []) ≡ Known t → TextHere n (kind.UnaryExpr op) (e ∷ [])
   unfolding text_by
   unary_text operator.Bang n e whole calm t is old =
@@ -332,15 +350,14 @@ module _ (ctx : ExprCtx) (sure : Assumed) (x : ExecutionContext) where
       calm_text n (kind.UnaryExpr operator.Void) (e ∷ []) (calm (none_of (effects_here n (kind.UnaryExpr operator.Void) (e ∷ [])) (void_pure own t is))) old
   unary_text op n e whole calm t is old = absurd (cc)
 
-  list_leaves : (old : State) (front : List ℕ) (ns : List SteadyNode) → all_whole (takens ns) ≡ true → (t : List ℕ) → joined_behind front (judgements ns) ≡ Known t → Leaves old (all_elements (meanings ns) x)
+  list_leaves : (old : State) (front : List ℕ) (ns : List SteadyNode) → EachOf Asked (nodes ns) → (t : List ℕ) → joined_behind front (judgements ns) ≡ Known t → Leaves old (all_elements (meanings ns) x)
   list_leaves old front [] whole t is = give_leaves old []
   list_leaves old front (n ∷ ns) whole t is =
-      let p = both_true (is_taken ctx x.known.declared sure n.0) (all_whole (takens ns)) whole in
       let f = followed_known (followed_by (Known front) (judged ctx n.0).element) (joined_behind (44 ∷ []) (judgements ns)) t is in
       let g = followed_known (Known front) (judged ctx n.0).element f.0.0 f.0.1 in
-      bind_leaves old (n.1.element p.0 g.1.0 g.1.1 old) (λ vs. bind_leaves old (list_leaves old (44 ∷ []) ns p.1 f.1.0 f.1.1) (λ ws. give_leaves old (vs ++ ws)))
+      bind_leaves old (n.1.element whole.0 g.1.0 g.1.1 old) (λ vs. bind_leaves old (list_leaves old (44 ∷ []) ns whole.1 f.1.0 f.1.1) (λ ws. give_leaves old (vs ++ ws)))
 
-  layer_text : (n : Node) (k : Kind) (ns : List SteadyNode) → is_taken_by ctx x.known.declared sure k (takens ns) ≡ true → IfCalm n k ns → (t : List ℕ)
+  layer_text : (n : Node) (k : Kind) (ns : List SteadyNode) → AskedBelow k ns → IfCalm n k ns → (t : List ℕ)
       → text_by ctx (own_here n k ns) k (judgements ns) ≡ Known t → TextHere n k ns
   unfolding text_by effects_by pure_callee_by
   layer_text n (kind.Str value raw) ns whole calm t is old = calm_text n (kind.Str value raw) ns (calm refl) old
@@ -350,12 +367,12 @@ module _ (ctx : ExprCtx) (sure : Assumed) (x : ExecutionContext) where
   layer_text n (kind.Ident name ctxt optional) ns whole calm t is old =
       calm_text n (kind.Ident name ctxt optional) ns (calm (name_effects n name ctxt optional ns
       (text_readable (ctxt == ctx.unresolved_ctxt) name t (own_here n (kind.Ident name ctxt optional) ns) (ctxt == ctx.unresolved_ctxt && is_text_name name) refl is))) old
-  layer_text n (kind.UnaryExpr op) (e ∷ []) whole calm t is old = unary_text op n e (both_true (is_taken ctx x.known.declared sure e.0) true whole).0 calm t is old
+  layer_text n (kind.UnaryExpr op) (e ∷ []) whole calm t is old = unary_text op n e (whole refl).0 calm t is old
   layer_text n (kind.UnaryExpr op) ns whole calm t is old = (outside_leaves old, as_element old outside (outside_leaves old))
   layer_text n kind.ArrayLit (e ∷ []) whole calm t is old =
-      let value = array_leaves old (meaning e.0) (e.1.text (both_true (is_taken ctx x.known.declared sure e.0) true whole).0 t is old).1 in (value, as_element old _ value)
+      let value = array_leaves old (meaning e.0) (e.1.text (whole refl).0 t is old).1 in (value, as_element old _ value)
   layer_text n kind.ArrayLit ns whole calm t is old = (outside_leaves old, as_element old outside (outside_leaves old))
-  layer_text n kind.List ns whole calm t is old = (outside_leaves old, list_leaves old [] ns whole t is)
+  layer_text n kind.List ns whole calm t is old = (outside_leaves old, list_leaves old [] ns (whole refl) t is)
   layer_text n k ns whole calm t is old = absurd (cc)
 
   -- ---- elements of arrays
@@ -376,51 +393,52 @@ module _ (ctx : ExprCtx) (sure : Assumed) (x : ExecutionContext) where
   nothing_leaves n (kind.UnaryExpr op) ns calm is old = nothing_unary op n ns calm is old
   nothing_leaves n k ns calm is old = absurd (cc)
 
-  layer_element : (n : Node) (k : Kind) (ns : List SteadyNode) → is_taken_by ctx x.known.declared sure k (takens ns) ≡ true → IfCalm n k ns → (text : KnownOr (List ℕ)) → text ≡ text_by ctx (own_here n k ns) k (judgements ns) → (t : List ℕ)
+  layer_element : (n : Node) (k : Kind) (ns : List SteadyNode) → AskedBelow k ns → IfCalm n k ns → (text : KnownOr (List ℕ)) → text ≡ text_by ctx (own_here n k ns) k (judgements ns) → (t : List ℕ)
       → (b : Bool) → is_nothing_by ctx (own_here n k ns) k ≡ b → (if b then Known [] else text) ≡ Known t → (old : State) → Leaves old ((meant n k ns).elements x)
   layer_element n k ns whole calm text same t true e is old = nothing_leaves n k ns calm e old
   layer_element n k ns whole calm text same t false e is old = (layer_text n k ns whole calm t (sym same ∙ is) old).1
 
-module _ (ctx : ExprCtx) (sure : Assumed) (off : ctx.is_unresolved_ref_safe ≡ false) (x : ExecutionContext) (apart : declares_no_global ctx x.scope ≡ true) (clear : Apart ctx sure x.scope)
-    (applies : sure.calls ≡ true → AppliesFunctions x) where
-  module _ (parts : Node-F Node) (ns : List (SteadyNode ctx sure x)) (is : nodes ctx sure x ns ≡ parts.children) where
+module _ (ctx : ExprCtx) (Asked : Node → Type 0) (x : ExecutionContext) (asks : Asks ctx x Asked) where
+  module _ (parts : Node-F Node) (ns : List (SteadyNode ctx Asked x)) (is : nodes ctx Asked x ns ≡ parts.children) where
     abbrev here : Node
     here = roll-Node parts
 
     abbrev own : Purity
-    own = own_here ctx sure x here parts.kind ns
+    own = own_here ctx Asked x here parts.kind ns
 
-    same_meaning : meaning here ≡ meant ctx sure x here parts.kind ns
+    same_meaning : meaning here ≡ meant ctx Asked x here parts.kind ns
     same_meaning = meaning-roll parts ∙ ap (λ l. meaning_by here parts.kind (map meaning l)) (sym is)
 
-    same_effects : (judged ctx here).effects ≡ effects_here ctx sure x here parts.kind ns
+    same_effects : (judged ctx here).effects ≡ effects_here ctx Asked x here parts.kind ns
     same_effects = effects-roll ctx parts ∙ ap (λ l. not (pure_callee_by ctx parts.kind here) && effects_by ctx parts.kind here (map (judged ctx) l)) (sym is)
 
     -- what the tables say, by the kind and the children
-    by_parts : {A : Type 0} (f : Purity → Kind → List Judged → A) → f (purity_of (judged ctx here).effects) (out-Node here).kind (kids_of ctx here) ≡ f own parts.kind (judgements ctx sure x ns)
+    by_parts : {A : Type 0} (f : Purity → Kind → List Judged → A) → f (purity_of (judged ctx here).effects) (out-Node here).kind (kids_of ctx here) ≡ f own parts.kind (judgements ctx Asked x ns)
     by_parts f =
         ap (λ (z : Node-F Node). f (purity_of (judged ctx here).effects) z.kind (map (judged ctx) z.children)) (out-roll-Node parts)
-        ∙ ap (λ l. f (purity_of (judged ctx here).effects) parts.kind (map (judged ctx) l)) (sym is) ∙ ap (λ b. f (purity_of b) parts.kind (judgements ctx sure x ns)) same_effects
+        ∙ ap (λ l. f (purity_of (judged ctx here).effects) parts.kind (map (judged ctx) l)) (sym is) ∙ ap (λ b. f (purity_of b) parts.kind (judgements ctx Asked x ns)) same_effects
 
-    same_truth : (judged ctx here).truth ≡ truth_by ctx own parts.kind here (judgements ctx sure x ns)
+    same_truth : (judged ctx here).truth ≡ truth_by ctx own parts.kind here (judgements ctx Asked x ns)
     same_truth = truth-out ctx here ∙ by_parts (λ p k kids. truth_by ctx p k here kids)
 
-    same_number : (judged ctx here).number ≡ number_by ctx own parts.kind here (judgements ctx sure x ns)
+    same_number : (judged ctx here).number ≡ number_by ctx own parts.kind here (judgements ctx Asked x ns)
     same_number = number-out ctx here ∙ by_parts (λ p k kids. number_by ctx p k here kids)
 
-    same_text : (judged ctx here).text ≡ text_by ctx own parts.kind (judgements ctx sure x ns)
+    same_text : (judged ctx here).text ≡ text_by ctx own parts.kind (judgements ctx Asked x ns)
     same_text = text-out ctx here ∙ by_parts (λ p k kids. text_by ctx p k kids)
 
-    same_type : (judged ctx here).type ≡ type_by ctx parts.kind here (judgements ctx sure x ns)
+    same_type : (judged ctx here).type ≡ type_by ctx parts.kind here (judgements ctx Asked x ns)
     same_type = type-out ctx here ∙ by_parts (λ p k kids. type_by ctx k here kids)
 
     same_element : (judged ctx here).element ≡ element_by ctx own parts.kind (judged ctx here).text
     same_element = element-out ctx here ∙ by_parts (λ p k kids. element_by ctx p k (judged ctx here).text)
 
-    taken_here : is_taken ctx x.known.declared sure here ≡ true → is_taken_by ctx x.known.declared sure parts.kind (takens ctx sure x ns) ≡ true
-    taken_here whole = subst (λ l. is_taken_by ctx x.known.declared sure parts.kind (map (taken ctx x.known.declared sure) l) ≡ true) (sym is) (sym (ap (λ (t : Taken). t.whole) (taken-roll ctx sure x parts)) ∙ whole)
+    asked_below : Asked here → AskedBelow ctx Asked x parts.kind ns
+    asked_below whole h =
+        subst (EachOf Asked) (sym is)
+        (subst (λ (z : Node-F Node). EachOf Asked z.children) (out-roll-Node parts) (asks.below here whole (subst (λ (z : Node-F Node). is_parted z.kind ≡ true) (sym (out-roll-Node parts)) h)))
 
-    fits_here : (v : Value) → IsAsJudged (judged ctx here) v → Fits ctx own here parts.kind (judgements ctx sure x ns) v
+    fits_here : (v : Value) → IsAsJudged (judged ctx here) v → Fits ctx own here parts.kind (judgements ctx Asked x ns) v
     fits_here v h = record {
       truth = subst (λ (t : Purity × KnownOr Bool). HasTruth t.1 v) same_truth h.truth;
       number = subst (λ (t : Purity × KnownOr JsNumber). HasNumber t.1 v) same_number h.number;
@@ -428,37 +446,35 @@ module _ (ctx : ExprCtx) (sure : Assumed) (off : ctx.is_unresolved_ref_safe ≡ 
       type = subst (λ t. HasType t v) same_type h.type;
     }
 
-    calm_here : is_taken ctx x.known.declared sure here ≡ true → IfCalm ctx sure x here parts.kind ns
+    calm_here : Asked here → IfCalm ctx Asked x here parts.kind ns
     calm_here whole none =
         let e = same_effects ∙ none in
-        let c = (claim ctx sure off x applies here).quiet e whole in
         record {
-          leaves = λ old. subst (λ m. Leaves old (m.value x)) same_meaning (c.value old x.scope clear);
-          elements = λ old. subst (λ m. Leaves old (m.elements x)) same_meaning (c.elements old x.scope clear);
-          gives = subst (λ m. GivesBy (Fits ctx own here parts.kind (judgements ctx sure x ns)) (m.value x)) same_meaning
-              (weaker_gives fits_here ((valued ctx false x (λ is. absurd (cc)) apart here).value (idle_valued ctx sure false x here whole e)));
+          leaves = λ old. subst (λ m. Leaves old (m.value x)) same_meaning (asks.leaves here whole e old);
+          elements = λ old. subst (λ m. Leaves old (m.elements x)) same_meaning (asks.elements here whole e old);
+          gives = subst (λ m. GivesBy (Fits ctx own here parts.kind (judgements ctx Asked x ns)) (m.value x)) same_meaning (weaker_gives fits_here (asks.gives here whole e));
         }
 
-    told_here : (P Q : Value → Type 0) → ((v : Value) → P v → Q v) → Told ctx sure x P ((meant ctx sure x here parts.kind ns).value x) → Told ctx sure x Q ((meaning here).value x)
+    told_here : (P Q : Value → Type 0) → ((v : Value) → P v → Q v) → Told ctx Asked x P ((meant ctx Asked x here parts.kind ns).value x) → Told ctx Asked x Q ((meaning here).value x)
     told_here P Q f h = record {
       leaves = λ old. subst (λ m. Leaves old (m.value x)) (sym same_meaning) (h.leaves old);
       gives = weaker_gives f (subst (λ m. GivesBy P (m.value x)) (sym same_meaning) h.gives);
     }
 
-    steady_roll : Steady ctx sure x here
+    steady_roll : Steady ctx Asked x here
     steady_roll = record {
-      truth = λ whole pure. told_here (TruthHere ctx sure x here parts.kind ns) (AsTruth ctx sure x (judged ctx here))
+      truth = λ whole pure. told_here (TruthHere ctx Asked x here parts.kind ns) (AsTruth ctx Asked x (judged ctx here))
           (λ v h. (subst (λ (t : Purity × KnownOr Bool). HasTruth t.1 v) (sym same_truth) h.0, subst (λ t. HasType t v) (sym same_type) h.1))
-          (layer_truth ctx sure x here parts.kind ns (taken_here whole) (calm_here whole) (sym (ap (λ (t : Purity × KnownOr Bool). t.0) same_truth) ∙ pure));
-      number = λ whole pure. told_here (NumberHere ctx sure x here parts.kind ns) (HasNumber (judged ctx here).number.1)
+          (layer_truth ctx Asked x here parts.kind ns (asked_below whole) (calm_here whole) (sym (ap (λ (t : Purity × KnownOr Bool). t.0) same_truth) ∙ pure));
+      number = λ whole pure. told_here (NumberHere ctx Asked x here parts.kind ns) (HasNumber (judged ctx here).number.1)
           (λ v h. subst (λ (t : Purity × KnownOr JsNumber). HasNumber t.1 v) (sym same_number) h)
-          (layer_number ctx sure x here parts.kind ns (ap (λ (z : Node-F Node). z.children) (out-roll-Node parts) ∙ sym is) (taken_here whole) (calm_here whole) (sym (ap (λ (t : Purity × KnownOr JsNumber). t.0) same_number) ∙ pure));
+          (layer_number ctx Asked x here parts.kind ns (ap (λ (z : Node-F Node). z.children) (out-roll-Node parts) ∙ sym is) (asked_below whole) (calm_here whole) (sym (ap (λ (t : Purity × KnownOr JsNumber). t.0) same_number) ∙ pure));
       text = λ whole t known old.
-          let h = layer_text ctx sure x here parts.kind ns (taken_here whole) (calm_here whole) t (sym same_text ∙ known) old in
+          let h = layer_text ctx Asked x here parts.kind ns (asked_below whole) (calm_here whole) t (sym same_text ∙ known) old in
           (subst (λ m. Leaves old (m.value x)) (sym same_meaning) h.0, subst (λ m. Leaves old (m.elements x)) (sym same_meaning) h.1);
       element = λ whole t known old. subst (λ m. Leaves old (m.elements x)) (sym same_meaning)
-          (layer_element ctx sure x here parts.kind ns (taken_here whole) (calm_here whole) (judged ctx here).text same_text t (is_nothing_by ctx own parts.kind) refl (sym same_element ∙ known) old);
+          (layer_element ctx Asked x here parts.kind ns (asked_below whole) (calm_here whole) (judged ctx here).text same_text t (is_nothing_by ctx own parts.kind) refl (sym same_element ∙ known) old);
     }
 
-  pub steady : (n : Node) → Steady ctx sure x n
-  steady = ind-Node (Steady ctx sure x) (λ parts y is. steady_roll parts y.children (ap (λ z. z.children) is))
+  pub steady : (n : Node) → Steady ctx Asked x n
+  steady = ind-Node (Steady ctx Asked x) (λ parts y is. steady_roll parts y.children (ap (λ z. z.children) is))

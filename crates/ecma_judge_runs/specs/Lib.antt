@@ -2,5 +2,8 @@ pub mod Still
 pub mod Idle
 pub mod Called
 pub mod Taken
+pub mod Told
 pub mod Known
 pub mod Laws
+pub mod InState
+pub mod OfModules

@@ -1,0 +1,5 @@
+use Rattle.ecma_judge_runs.proofs.OfModules as law
+use Rattle.ecma_judge_runs.proofs.what_is_pure_in_modules_is_still.Goals as goal
+
+pub returns : goal.returns
+returns c = law.what_is_pure_in_modules_is_still
