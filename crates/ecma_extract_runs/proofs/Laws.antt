@@ -3,6 +3,8 @@ use Rattle.std.proofs.Common.{◌≡◌, refl, sym, ap, ◌∙◌, subst, List, 
 use Rattle.std.specs.List.{list_all}
 use Rattle.ecma_kind.specs.declared.kind.Kind.TheVariants as kind
 use Rattle.ecma_kind.specs.declared.span.Span.{Span}
+use Rattle.ecma_kind.specs.declared.shapes.Sort.TheVariants as sort
+use Rattle.ecma_tree.specs.Sorted.{has_shape, one}
 use Rattle.ecma_tree.specs.declared.node.Node.{Node}
 use Rattle.ecma_judge.specs.declared.ctx.ExprCtx.{ExprCtx}
 use Rattle.ecma_judge.specs.Extraction.{extracted, extracted_all, in_front, preserved}
@@ -19,10 +21,11 @@ use Rattle.ecma_run_places.proofs.Growing.{above, later}
 use Rattle.ecma_run_places.proofs.Nodes.{means_alike}
 use Rattle.ecma_extract_runs.specs.Evaluated.{evaluated, declares_no_global}
 use Rattle.ecma_extract_runs.specs.Fits.{fits}
-use Rattle.ecma_extract_runs.specs.Laws.{ComesTo, ExtractionKeepsEffects, PreservationKeepsEffects}
+use Rattle.ecma_extract_runs.specs.Laws.{ComesTo, ExtractionKeepsEffects, PreservationKeepsEffects, SortedExpressionsFit, ExtractionOfExpressionsKeepsEffects, are_expressions, PreservationOfExpressionsKeepsEffects}
 use Rattle.ecma_extract_runs.proofs.Leading.{Led, led, Leads, assoc, drops_lead, lead_bind, lead_append}
 use Rattle.ecma_extract_runs.proofs.Dates.{both_true}
 use Rattle.ecma_extract_runs.proofs.Nodes.{claim}
+use Rattle.ecma_extract_runs.proofs.Sorted.{shape_fits}
 use Rattle.ecma_run_places.proofs.Idle.{give_drops}
 
 comes : {w : World} {A : Type 0} {a : A} {t : State} {r : Outcome (Unit {0})} → Led w (Done a t) r → ComesTo w t r
@@ -70,3 +73,18 @@ preserved_alike ctx span val exprs w c s s' t f d st done =
 
 pub preservation_keeps_effects : PreservationKeepsEffects
 preservation_keeps_effects = record { is = λ ctx span val exprs w c s s' t f d st done. preserved_alike ctx span val exprs w c s s' t f d st done }
+
+-- ---- of expressions
+
+pub sorted_expressions_fit : SortedExpressionsFit
+sorted_expressions_fit e sorted = shape_fits e (one sort.Expr) refl sorted
+
+pub extraction_of_expressions_keeps_effects : ExtractionOfExpressionsKeepsEffects
+extraction_of_expressions_keeps_effects ctx e w c s s' t v sorted = extraction_keeps_effects ctx e w c s s' t v (sorted_expressions_fit e sorted)
+
+expressions_fit : (es : List Node) → are_expressions es ≡ true → list_all fits es ≡ true
+expressions_fit [] h = refl
+expressions_fit (e ∷ es) h = let t = both_true (has_shape e (one sort.Expr)) (are_expressions es) h in rw (sorted_expressions_fit e t.0, expressions_fit es t.1) refl
+
+pub preservation_of_expressions_keeps_effects : PreservationOfExpressionsKeepsEffects
+preservation_of_expressions_keeps_effects = record { is = λ ctx span val exprs w c s s' t sorted d st done. preserved_alike ctx span val exprs w c s s' t (expressions_fit exprs sorted) d st done }

@@ -5,4 +5,5 @@ pub mod References
 pub mod ByKind
 pub mod ByRole
 pub mod Nodes
+pub mod Sorted
 pub mod Laws

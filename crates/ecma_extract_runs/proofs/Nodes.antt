@@ -19,12 +19,12 @@ use Rattle.ecma_run_places.specs.Alike.{Contexts, first, second}
 use Rattle.ecma_run_places.specs.Worlds.{World}
 use Rattle.ecma_run_places.specs.Making.{Making, only_by, making_step, making, only_makes}
 use Rattle.ecma_run_places.proofs.Dropping.{dropped_end, Drops}
-use Rattle.ecma_run_places.proofs.Idle.{outside_drops}
+use Rattle.ecma_run_places.proofs.Idle.{give_drops, outside_drops}
 use Rattle.ecma_run_places.proofs.Making.{only_makes_drops}
 use Rattle.ecma_run_places.proofs.Nodes.{means_alike}
 use Rattle.ecma_extract_runs.specs.Evaluated.{evaluated}
 use Rattle.ecma_extract_runs.specs.Fits.{is_single, single_by, item_by, is_item, fits_by, fits_step, fits}
-use Rattle.ecma_extract_runs.proofs.Leading.{Leads, led_end, undone_end, outside_leads, alike_leads}
+use Rattle.ecma_extract_runs.proofs.Leading.{Leads, led_end, undone_end, drops_lead, outside_leads, alike_leads}
 use Rattle.ecma_extract_runs.proofs.Dates.{both_true, not_both}
 use Rattle.ecma_extract_runs.proofs.References.{bounded_end}
 use Rattle.ecma_extract_runs.proofs.ByKind.{Claim, opens_by, opens, Here, Child, nodes, meanings, keeps}
@@ -50,13 +50,13 @@ module _ (ctx : ExprCtx) (n : Node) where
 
   -- ---- what gives nothing
 
-  no_effect_claim : (fit item name opened : Bool) (es : List Node) → (item ≡ true → ⊥) → (opened ≡ true → ⊥) → Claim ctx n fit item name opened es (no_effect n)
-  no_effect_claim fit item name opened es never never' = record {
+  no_effect_claim : (fit item name opened : Bool) (es : List Node) → (item ≡ true → es ≡ []) → (opened ≡ true → ⊥) → Claim ctx n fit item name opened es (no_effect n)
+  no_effect_claim fit item name opened es none never' = record {
     value = λ c f d. outside_leads;
-    elements = λ c f i d. absurd (never i);
-    texts = λ c f i d. absurd (never i);
+    elements = λ c f i d. to_same (second c) (none i) (drops_lead (give_drops []));
+    texts = λ c f i d. to_same (second c) (none i) (drops_lead (give_drops []));
     key = λ c f d. outside_leads;
-    defined = λ c a o m f i d. absurd (never i);
+    defined = λ c a o m f i d. to_same (second c) (none i) (drops_lead (give_drops []));
     never_defined = λ h a o x s. absurd (never' h);
     made = λ x sort home. outside_drops;
     named = λ c h. record { at = λ st. dropped_end };
@@ -149,9 +149,12 @@ module _ (ctx : ExprCtx) (n : Node) where
 
   -- ---- by kind
 
-  item_effect : (k : Kind) (ns : List Node) (ms : List Meaning) → has_no_effect k ms ≡ true → item_by k ns (single_by k ms) ≡ true → ⊥
-  item_effect kind.List ns ms e h = false≢true e
-  item_effect k ns ms e h = not_both (has_no_effect k ms) e (both_true (not (has_no_effect k ms)) (is_single k) h).0
+  -- of what may be listed and has no effect nothing is left
+  item_effect : (k : Kind) (ps : List (Child ctx)) → has_no_effect k (meanings ctx ps) ≡ true → item_by k (nodes ctx ps) (single_by k (meanings ctx ps)) ≡ true → left_of ctx (way_by ctx k n) n (keeps ctx ps) ≡ []
+  unfolding way_by
+  item_effect kind.FnExpr ps e h = refl
+  item_effect kind.List ps e h = absurd (false≢true e)
+  item_effect k ps e h = absurd (not_both (has_no_effect k (meanings ctx ps)) e (both_true (not (has_no_effect k (meanings ctx ps))) (is_single k) h).0)
 
   opens_effect : (k : Kind) (ns : List Node) (ms : List Meaning) → has_no_effect k ms ≡ true → opens_by k ns ≡ true → ⊥
   opens_effect kind.SpreadElement ns ms e h = false≢true e
@@ -166,7 +169,7 @@ module _ (ctx : ExprCtx) (n : Node) where
 
   by_effect : (k : Kind) (ps : List (Child ctx)) (b : Bool) → has_no_effect k (meanings ctx ps) ≡ b → meaning n ≡ cond b (no_effect n) (role_by n k (meanings ctx ps)) → (out-Node n).children ≡ nodes ctx ps
       → only_makes n ≡ only_by k (map making (nodes ctx ps)) → (out-Node n).kind ≡ k → Step k ps (cond b (no_effect n) (role_by n k (meanings ctx ps)))
-  by_effect k ps true e mean shape only same = no_effect_claim _ _ _ _ _ (item_effect k (nodes ctx ps) (meanings ctx ps) e) (opens_effect k (nodes ctx ps) (meanings ctx ps) e)
+  by_effect k ps true e mean shape only same = no_effect_claim _ _ _ _ _ (item_effect k ps e) (opens_effect k (nodes ctx ps) (meanings ctx ps) e)
   by_effect k ps false e mean shape only same = role_claim ctx n k ps (here_of k ps mean shape only) e (λ h. subst (λ (z : Kind). is_global ctx (codes "Date") z ≡ true) same h)
 
   no_date : (k : Kind) → (out-Node n).kind ≡ k → is_global ctx (codes "Date") k ≡ false → is_date ctx n ≡ true → ⊥

@@ -20,8 +20,9 @@ is_single kind.TsTypeParamInstantiation = false
 is_single kind.List = false
 is_single k = true
 
--- what may be listed: nothing that is without effect wherever it stands, as types are
+-- what may be listed: nothing that is without effect wherever it stands, as types are, but for a function expression without a body, of which nothing is left
 abbrev pub single_by : Kind → List Meaning → Bool
+single_by kind.FnExpr ms = true
 single_by k ms = not (has_no_effect k ms) && is_single k
 
 abbrev pub is_single_item : Node → Bool
