@@ -9,7 +9,7 @@ use Rattle.ecma_runs.specs.State.{Id, Entered, Binding, Activation, Sort, Plain,
 use Rattle.ecma_runs.specs.Run.{Ended, TurnsSpent, Run, then_outcome, ◌>>=◌, give, outside, when}
 use Rattle.ecma_runs.specs.Environment.{Reference, ToValue, empty, is_among, initialize, initialize_one}
 use Rattle.ecma_runs.specs.Meaning.{Invocation, AsCall, ExecutionContext, inside, Meaning}
-use Rattle.ecma_runs.specs.Objects.{new_object, callable_in, code_in, Function, calling_of}
+use Rattle.ecma_runs.specs.Objects.{callable_in, code_in, Function, calling_of}
 use Rattle.ecma_runs.specs.Declarations.{all_names, has_no_effect}
 use Rattle.ecma_runs.specs.Patterns.{all_parameters}
 use Rattle.ecma_runs.specs.Functions.{prototype_entries, function_entries, open_entries, plain_object, function_object, closure_of, new_function, callee_by, call, call_calling, call_own}

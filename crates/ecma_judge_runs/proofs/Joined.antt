@@ -1,5 +1,5 @@
 -- Where a text is known it is that of the value in the state behind it: of an array that of its elements there.
-use Rattle.std.proofs.Common.{◌≡◌, refl, sym, ap, ◌∙◌, subst, ◌⊎◌, inl, inr, ℕ, length, replicate, List, [], ◌∷◌, ◌++◌, map, Option, Some, None, Bool, true, false, not, ◌&&◌, ◌||◌, ◌==◌, bytes_eq, codes, if◌then◌else◌}
+use Rattle.std.proofs.Common.{◌≡◌, refl, sym, ap, ◌∙◌, subst, ◌⊎◌, inl, inr, ℕ, length, replicate, List, [], ◌∷◌, ◌++◌, map, Some, None, Bool, true, false, not, ◌&&◌, ◌||◌, ◌==◌, bytes_eq, codes, if◌then◌else◌}
 use Rattle.ecma_number.specs.Text.{text_of}
 use Rattle.ecma_number.specs.Types.{is_pure}
 use Rattle.ecma_number.specs.Value.{logical_not}
@@ -24,14 +24,14 @@ use Rattle.ecma_tree.specs.declared.node.Node.TheViews.{out-roll-Node}
 use Rattle.ecma_judge.specs.declared.ctx.ExprCtx.{ExprCtx}
 use Rattle.ecma_judge.specs.Judged.{judged, kids_of}
 use Rattle.ecma_judge.specs.Judgement.{Judged, purity_of, kid}
-use Rattle.ecma_judge.specs.Texts.{bool_text, known_bool_text, text_by, is_nothing_by, element_by, joined_behind, followed_by}
+use Rattle.ecma_judge.specs.Texts.{bool_text, known_bool_text, text_by, is_nothing_by, joined_behind, followed_by}
 use Rattle.ecma_judge.specs.Truths.{truth_by}
 use Rattle.ecma_judge.specs.Types.{type_by}
 use Rattle.ecma_judge.specs.Values.{is_void}
 use Rattle.ecma_judge.proofs.Judging.{truth-out, text-out, type-out, element-out}
-use Rattle.ecma_runs.specs.Values.{Value, Undefined, Null, Truth, Number, Text, Own, truth_of}
+use Rattle.ecma_runs.specs.Values.{Value, Undefined, Null, Truth, Number, Text, truth_of}
 use Rattle.ecma_runs.specs.State.{State}
-use Rattle.ecma_runs.specs.Run.{Run, ◌>>=◌, give}
+use Rattle.ecma_runs.specs.Run.{◌>>=◌, give}
 use Rattle.ecma_runs.specs.Meaning.{ExecutionContext, Meaning}
 use Rattle.ecma_runs.specs.Operators.{text_from}
 use Rattle.ecma_runs.specs.Expressions.{all_elements}
@@ -43,7 +43,7 @@ use Rattle.ecma_judge_runs.proofs.Both.{both_true}
 use Rattle.ecma_judge_runs.specs.Told.{are_told}
 use Rattle.ecma_judge_runs.proofs.Shapes.{shaped, untrue}
 use Rattle.ecma_judge_runs.proofs.ValuedNodes.{valued}
-use Rattle.ecma_judge_runs.proofs.Settling.{SettlesFrom, Settles, bind_settles, weaker_settles, beside_settles, give_settles, outside_settles, settled, OneText, one_still, joined_from, JoinedTexts, joined_more, array_settles}
+use Rattle.ecma_judge_runs.proofs.Settling.{Settles, bind_settles, weaker_settles, beside_settles, give_settles, outside_settles, settled, OneText, one_still, JoinedTexts, joined_more, array_settles}
 use Rattle.ecma_judge_runs.proofs.Steady.{is_parted, Steady}
 use Rattle.ecma_judge_runs.proofs.Asking.{IsSorted, all_told, sorted_below}
 

@@ -24,13 +24,13 @@ use Rattle.ecma_judge.specs.Values.{last_index}
 use Rattle.ecma_judge.proofs.Judging.{number-out, text-out, type-out}
 use Rattle.ecma_runs.specs.Values.{Value, Own}
 use Rattle.ecma_runs.specs.State.{State}
-use Rattle.ecma_runs.specs.Run.{Outcome, Done, Thrown, Returned, Broken, Continued, Ended, Run, then_outcome, ◌>>=◌, outside}
-use Rattle.ecma_runs.specs.Meaning.{ExecutionContext, Meaning}
+use Rattle.ecma_runs.specs.Run.{Outcome, Done, Thrown, Returned, Broken, Continued, Ended, Run, then_outcome, ◌>>=◌}
+use Rattle.ecma_runs.specs.Meaning.{ExecutionContext}
 use Rattle.ecma_runs.specs.Expressions.{sequence}
 use Rattle.ecma_runs.specs.Evaluation.{meaning_by, meaning}
 use Rattle.ecma_runs.proofs.Layer.{meaning_out}
-use Rattle.ecma_judge_runs.specs.InState.{HasArrayText, HasArrayNumber}
-use Rattle.ecma_judge_runs.specs.Known.{HasType, IsAsJudged, ConstructsObjects, declares_no_global}
+use Rattle.ecma_judge_runs.specs.InState.{HasArrayNumber}
+use Rattle.ecma_judge_runs.specs.Known.{HasType, ConstructsObjects, declares_no_global}
 use Rattle.ecma_judge_runs.proofs.Giving.{Gave, GivesBy}
 use Rattle.ecma_judge_runs.proofs.Keeping.{FollowsIn}
 use Rattle.ecma_judge_runs.proofs.Shapes.{untrue}

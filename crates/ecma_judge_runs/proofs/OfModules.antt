@@ -1,5 +1,5 @@
 -- The laws of the expressions of modules.
-use Rattle.std.proofs.Common.{◌≡◌, refl, sym, ap, ◌∙◌, subst, ◌⊎◌, inl, inr, ℕ, List, [], ◌∷◌, Bool, true, false, not, ◌&&◌, ◌||◌, ◌==◌}
+use Rattle.std.proofs.Common.{◌≡◌, refl, sym, ◌∙◌, subst, inl, inr, ℕ, List, [], ◌∷◌, Bool, true, false, not, ◌||◌, ◌==◌}
 use Rattle.std.specs.List.{list_all}
 use Rattle.ecma_kind.specs.declared.kind.Kind.{Kind}
 use Rattle.ecma_kind.specs.declared.kind.Kind.TheVariants as kind
@@ -10,14 +10,14 @@ use Rattle.ecma_tree.specs.declared.node.Node.{Node, out-Node}
 use Rattle.ecma_judge.specs.declared.ctx.ExprCtx.{ExprCtx}
 use Rattle.ecma_judge.specs.Judged.{judged}
 use Rattle.ecma_judge.specs.Parts.{passes_at}
-use Rattle.ecma_judge.specs.PureCallees.{is_idle, pure_callee_by}
+use Rattle.ecma_judge.specs.PureCallees.{pure_callee_by}
 use Rattle.ecma_judge.proofs.Judging.{callee-out}
 use Rattle.ecma_runs.specs.Values.{Value}
 use Rattle.ecma_runs.specs.State.{Id, Entered, State}
 use Rattle.ecma_runs.specs.Run.{Done, Run}
 use Rattle.ecma_runs.specs.Meaning.{ExecutionContext}
 use Rattle.ecma_runs.specs.Evaluation.{meaning}
-use Rattle.ecma_judge_runs.specs.Called.{is_function_expression, is_loose, are_apart, declares_no_loose, called, AppliesFunctions, IsSo, MayBeCalled}
+use Rattle.ecma_judge_runs.specs.Called.{is_function_expression, is_loose, are_apart, declares_no_loose, AppliesFunctions, IsSo, MayBeCalled}
 use Rattle.ecma_judge_runs.specs.Idle.{is_harmless}
 use Rattle.ecma_judge_runs.specs.Known.{HasNumber, declares_no_global}
 use Rattle.ecma_judge_runs.specs.InState.{HasTextIn}

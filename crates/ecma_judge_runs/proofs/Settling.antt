@@ -1,11 +1,11 @@
 -- Runs that leave each state as it was, and what is so of the states behind them; texts of elements there.
-use Rattle.std.proofs.Common.{◌≡◌, refl, sym, ap, ◌∙◌, subst, ℕ, List, [], ◌∷◌, ◌++◌, Option, Some, None, Bool, true, length, slice_get}
+use Rattle.std.proofs.Common.{◌≡◌, refl, sym, ap, ◌∙◌, subst, ℕ, List, [], ◌∷◌, ◌++◌, Option, None, length}
 use Rattle.ecma_runs.specs.Values.{Value, Own}
 use Rattle.ecma_runs.specs.State.{Array, Object, State}
 use Rattle.ecma_runs.specs.Run.{Outcome, Done, Thrown, Returned, Broken, Continued, Ended, Run, then_outcome, ◌>>=◌, give, outside}
 use Rattle.ecma_runs.specs.Objects.{element_entries, new_array}
 use Rattle.ecma_judge_runs.specs.Still.{Still}
-use Rattle.ecma_judge_runs.specs.InState.{IsArrayOf, behind_commas, with_commas, HaveTextsIn, none_left, empty_text, own_text, array_text, HasArrayText}
+use Rattle.ecma_judge_runs.specs.InState.{behind_commas, with_commas, HaveTextsIn, none_left, empty_text, own_text, array_text, HasArrayText}
 use Rattle.ecma_judge_runs.proofs.Fronts.{last_at, front_at, still_itself, still_further}
 use Rattle.ecma_judge_runs.proofs.Leaving.{Follows, Leaves}
 use Rattle.ecma_judge_runs.proofs.Giving.{Gave, GivesBy}

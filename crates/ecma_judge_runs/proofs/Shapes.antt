@@ -1,5 +1,5 @@
 -- Trees with shapes, and functions that do nothing among them.
-use Rattle.std.proofs.Common.{◌≡◌, refl, sym, ap, ◌∙◌, subst, arith, length, replicate, suc, List, [], ◌∷◌, map, Bool, true, false, not, ◌&&◌, slice_get}
+use Rattle.std.proofs.Common.{◌≡◌, refl, sym, ap, ◌∙◌, subst, arith, length, replicate, suc, List, [], ◌∷◌, map, Bool, true, false, ◌&&◌, slice_get}
 use Rattle.std.specs.List.{list_all}
 use Rattle.std.specs.Option.{option_map_or}
 use Rattle.std.proofs.lemmas.List.{length-map}

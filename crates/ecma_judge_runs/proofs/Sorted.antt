@@ -7,7 +7,7 @@ use Rattle.ecma_kind.specs.declared.kind.Kind.TheVariants as kind
 use Rattle.ecma_kind.specs.declared.shapes.Shape.{Shape}
 use Rattle.ecma_kind.specs.declared.shapes.Sort.TheVariants as sort
 use Rattle.ecma_tree.specs.Sorted.{is_absent, is_list, child_shapes, all_have_shapes, has_shape, one, maybe, many, with_holes}
-use Rattle.ecma_tree.specs.declared.node.Node.{Node, Node-F, fold-Node, fold-roll-Node, fold_out-Node, roll-Node, out-Node, ind-Node}
+use Rattle.ecma_tree.specs.declared.node.Node.{Node, Node-F, fold-roll-Node, fold_out-Node, roll-Node, out-Node, ind-Node}
 use Rattle.ecma_tree.specs.declared.node.Node.TheViews.{out-roll-Node}
 use Rattle.ecma_judge.specs.declared.ctx.ExprCtx.{ExprCtx}
 use Rattle.ecma_judge.specs.Effects.{is_delete, is_static_accessor, has_static_accessor, class_may_call, property_may_call_by, property_may_call, properties_may_call, reads_plainly, reading_may_call_by, effects_by, access_effects_by, part_effects_by}

@@ -8,16 +8,16 @@ use Rattle.ecma_kind.specs.declared.operators.BinaryOp.{BinaryOp}
 use Rattle.ecma_kind.specs.declared.operators.UnaryOp.{UnaryOp}
 use Rattle.ecma_kind.specs.declared.operators.UnaryOp.TheVariants as operator
 use Rattle.ecma_kind.specs.declared.shapes.Count.{Count}
-use Rattle.ecma_kind.specs.declared.shapes.Count.TheVariants.{One, Maybe, Many, MaybeMany, Holes}
+use Rattle.ecma_kind.specs.declared.shapes.Count.TheVariants.{One, Maybe}
 use Rattle.ecma_kind.specs.declared.shapes.Shape.{Shape}
 use Rattle.ecma_kind.specs.declared.shapes.Sort.{Sort}
 use Rattle.ecma_kind.specs.declared.shapes.Sort.TheVariants as sort
 use Rattle.ecma_tree.specs.Sorted.{allows, child_shapes, all_have_shapes, has_shape, one}
-use Rattle.ecma_tree.specs.declared.node.Node.{Node, Node-F, roll-Node, out-Node, ind-Node}
+use Rattle.ecma_tree.specs.declared.node.Node.{Node, Node-F, roll-Node, ind-Node}
 use Rattle.ecma_tree.specs.declared.node.Node.TheViews.{out-roll-Node}
 use Rattle.ecma_judge_runs.specs.Known.{Marks, marks, marks_by, is_told_of, is_valued_by, is_assignable_by, last_or}
 use Rattle.ecma_judge_runs.proofs.Both.{both_true, two_true}
-use Rattle.ecma_judge_runs.proofs.Shapes.{shaped, untrue, never}
+use Rattle.ecma_judge_runs.proofs.Shapes.{shaped, untrue}
 use Rattle.ecma_judge_runs.proofs.ValuedNodes.{marks-roll}
 
 -- what is assigned to, and what stands there in parentheses or with types

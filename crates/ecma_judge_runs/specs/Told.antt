@@ -1,5 +1,5 @@
 -- What is asked of the names of an expression.
-use Rattle.std.specs.Prelude.{ℕ, Bool, true, false, not, ◌&&◌, List, ◌∷◌}
+use Rattle.std.specs.Prelude.{Bool, true, not, ◌&&◌, List, ◌∷◌}
 use Rattle.std.specs.List.{list_all}
 use Rattle.ecma_kind.specs.declared.kind.Kind.{Kind}
 use Rattle.ecma_kind.specs.declared.kind.Kind.TheVariants as kind
