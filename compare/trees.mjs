@@ -68,7 +68,7 @@ const argument = (n) => (n.type === "SpreadElement" ? tree("kind.SpreadElement",
 
 function property(n) {
   if (n.type === "SpreadElement") return argument(n);
-  if (n.shorthand) return `ident ${bytes(n.key.name)}`;
+  if (n.shorthand) return ident(n.key.name);
   const key = name(n.key, n.computed);
   if (n.kind === "get") return tree("kind.GetterProp", key, "absent", block(n.value.body));
   if (n.kind === "set") return tree("kind.SetterProp", key, "absent", pattern(n.value.params[0]), block(n.value.body));
@@ -266,6 +266,7 @@ const declarations = {
   $ambient_namespace: (id) => tree("kind.TsModuleDecl true false", id, tree("kind.TsModuleBlock", list([tree("kind.ExprStmt", "whole 1")]))),
   $type_namespace_path: (id) => tree("kind.TsModuleDecl false false", id, tree("kind.TsNamespaceDecl false false", id, tree("kind.TsModuleBlock", list([tree("kind.TsInterfaceDecl false", id)])))),
   $namespace_path: (id) => tree("kind.TsModuleDecl false false", id, tree("kind.TsNamespaceDecl false false", id, tree("kind.TsModuleBlock", list([tree("kind.ExprStmt", "whole 1")])))),
+  $named_export: (id) => tree("kind.NamedExport false", list([tree("kind.ExportNamedSpecifier false", id, "absent")]), "absent", "absent"),
   $break: () => tree("kind.BreakStmt", "absent"),
   $continue: () => tree("kind.ContinueStmt", "absent"),
   $break_label: (id) => tree("kind.BreakStmt", id),
@@ -301,6 +302,15 @@ const members = {
   $property: () => tree("kind.Constructor None false", `key ${bytes("constructor")}`, list([tree("kind.TsParamProp None false false", `binding ${bytes("x")}`)]), "block End"),
   $overloaded: () => tree("kind.Constructor None false", `key ${bytes("constructor")}`, "list End", "absent"),
 };
+
+/** What stands for enums: `$enum_E: ({ A: $auto, B: 1 });` is `enum E { A, B = 1 }`, also `$const_enum_E` and `$export_enum_E`; names of members have the context 2. */
+function enumeration(label, object) {
+  const [, isExport, isConst, of] = /^\$(export_)?(const_)?enum_(.+)$/.exec(label);
+  const items = object.properties.map(({ key, value }) =>
+    tree("kind.TsEnumMember", key.type === "Identifier" ? ident(`$2_${key.name}`) : expression(key), value.type === "Identifier" && value.name === "$auto" ? "absent" : expression(value)));
+  const declared = tree(`kind.TsEnumDecl false ${isConst !== undefined}`, ident(of), list(items));
+  return isExport ? tree("kind.ExportDecl", declared) : declared;
+}
 
 const unparenthesized = (n) => (n.type === "ParenthesizedExpression" ? n.expression : n);
 
@@ -339,6 +349,7 @@ function statement(n) {
     // what stands for the block of a namespace as a statement, and for `export = e`
     case "LabeledStatement":
       if (n.label.name === "$export") return tree("kind.TsExportAssignment", expression(unparenthesized(n.body.expression)));
+      if (/^\$(export_)?(const_)?enum_/.test(n.label.name)) return enumeration(n.label.name, unparenthesized(n.body.expression));
       if (n.label.name === "$block") return tree("kind.TsModuleBlock", list(n.body.body.map(statement)));
       return tree("kind.LabeledStmt", `ident ${bytes(n.label.name)}`, statement(n.body));
     case "BreakStatement": return tree("kind.BreakStmt", label(n.label));
@@ -354,8 +365,68 @@ function statement(n) {
   }
 }
 
+const isEnum = (n) => n.type === "LabeledStatement" && /^\$(export_)?(const_)?enum_/.test(n.label.name);
+
+/** The value of an initialiser, by what is known of the members before it; undefined where nothing is known. */
+function folded(n, of, members) {
+  const known = (name) => members.findLast((m) => m.of === of && m.name === name)?.value;
+  if (n.type === "Literal" && ["number", "string"].includes(typeof n.value)) return n.value;
+  if (n.type === "ParenthesizedExpression") return folded(n.expression, of, members);
+  if (n.type === "Identifier") return { NaN, Infinity }[n.name] ?? known(n.name.replace(/^\$2_/, ""));
+  if (n.type === "MemberExpression" && n.object.name === of) return known(n.computed ? n.property.value : n.property.name);
+  if (n.type === "UnaryExpression" && "+-~".includes(n.operator)) {
+    const e = folded(n.argument, of, members);
+    return typeof e === "number" ? { "+": e, "-": -e, "~": ~e }[n.operator] : undefined;
+  }
+  if (n.type !== "BinaryExpression") return undefined;
+  const [left, right] = [folded(n.left, of, members), folded(n.right, of, members)];
+  if (left === undefined || right === undefined) return undefined;
+  if (n.operator === "+") return left + right;
+  return { "*": left * right, "-": left - right }[n.operator];
+}
+
+const numberText = (n) => Object.is(n, -0) ? "js_number.NegZero" : Number.isNaN(n) ? "js_number.NaN" : n === Infinity ? "js_number.Infinity" : n === -Infinity ? "js_number.NegInfinity" :
+  n < 0 ? `js_number.Whole (negsuc ${-n - 1})` : `js_number.Whole (pos ${n})`;
+const knownText = (v) => v === undefined ? "enum_value.Opaque" : v === null ? "enum_value.Void" : typeof v === "string" ? `enum_value.String ${bytes(v)}` : `enum_value.Number (${numberText(v)})`;
+const listed = (items) => (items.length === 0 ? "[]" : `(${items.join(" ∷ ")} ∷ [])`);
+
+/** What is known of the enums of a module, in the words of crates/ecma_runs; undefined where there are none. */
+export function enumsOf(source) {
+  const { body } = parseModule(source);
+  const all = [];
+  const visit = (n) => {
+    if (Array.isArray(n)) return n.forEach(visit);
+    if (n === null || typeof n !== "object") return;
+    if (n.type && isEnum(n)) all.push(n);
+    Object.values(n).forEach(visit);
+  };
+  visit(body);
+  if (all.length === 0) return undefined;
+  const members = [];
+  const names = [];
+  const constants = new Set();
+  const exported = new Set([...source.matchAll(/\$named_export\.(\w+)/g)].map((m) => m[1]));
+  for (const n of all) {
+    const [, isExport, isConst, of] = /^\$(export_)?(const_)?enum_(.+)$/.exec(n.label.name);
+    if (isConst) constants.add(of);
+    if (isExport) exported.add(of);
+    let next = 0;
+    for (const { key, value } of unparenthesized(n.body.expression).properties) {
+      const name = key.name ?? key.value;
+      const found = value.type === "Identifier" && value.name === "$auto" ? next : folded(value, of, members);
+      members.push({ of, name, value: found, isConst: isConst !== undefined });
+      if (key.type === "Identifier") names.push([name, of]);
+      next = typeof found === "number" ? found + 1 : null;
+    }
+  }
+  const entry = (m) => `entry ${bytes(m.of)} ${bytes(m.name)} ${knownText(m.value).includes(" ") ? `(${knownText(m.value)})` : knownText(m.value)} ${m.isConst}`;
+  const unwritten = [...constants].filter((of) => !exported.has(of));
+  return `(known ${listed(members.map(entry))} ${listed(names.map(([name, of]) => `named ${bytes(name)} ${bytes(of)}`))} ${listed(unwritten.map((of) => bytes(of)))})`;
+}
+
+const parseModule = (source) => parse(source, { ecmaVersion: 2022, sourceType: "module", preserveParens: true, allowReturnOutsideFunction: true, allowSuperOutsideMethod: true });
+
 /** The trees of a module's items. */
 export function itemsOf(source) {
-  const { body } = parse(source, { ecmaVersion: 2022, sourceType: "module", preserveParens: true, allowReturnOutsideFunction: true, allowSuperOutsideMethod: true });
-  return body.map(statement);
+  return parseModule(source).body.map(statement);
 }

@@ -5,7 +5,7 @@
 
 ghost use Rattle.ecma_bind_runs.specs.Laws.{BoundNamesRunAlike};
 
-/// A module runs as it does with its names bound.
+/// A module runs as it does with its names bound, where no enum stays in either.
 pub fn bound_names_run_alike()
     ensures { BoundNamesRunAlike }
 {}

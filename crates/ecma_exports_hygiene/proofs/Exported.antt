@@ -223,6 +223,8 @@ module _ (c : Node) where
   exports-by kind.TsTypeParamInstantiation cs around is are b p h plain here = absurd (true-false b refl)
   exports-by kind.TsQualifiedName cs around is are b p h plain here = absurd (true-false b refl)
   exports-by (kind.TsImportEqualsDecl x y) cs around is are b p h plain here = absurd (true-false (plain-kind (kind.TsImportEqualsDecl x y) cs here) refl)
+  exports-by (kind.TsEnumDecl x y) cs around is are b p h plain here = absurd (true-false (plain-kind (kind.TsEnumDecl x y) cs here) refl)
+  exports-by kind.TsEnumMember cs around is are b p h plain here = absurd (true-false b refl)
   exports-by k cs around is are b p h plain here = none-every _ (either-none (has_no_effect k (map meaning cs)) c (role_by c k (map meaning cs)) None refl)
 
 -- what an item of a plain module exports under its own name

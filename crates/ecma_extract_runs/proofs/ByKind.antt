@@ -33,23 +33,27 @@ use Rattle.ecma_run_places.specs.Alike.{Contexts, first, second}
 use Rattle.ecma_run_places.specs.Making.{making, only_by}
 use Rattle.ecma_run_places.proofs.Growing.{later}
 use Rattle.ecma_run_places.proofs.Dropping.{Drops}
-use Rattle.ecma_run_places.proofs.Idle.{drops_bind, drops_together, type_of_drops, make_function_drops, make_generator_drops, given_drops, give_drops, outside_drops, new_object_drops, applied_drops}
+use Rattle.ecma_run_places.proofs.Idle.{NoMembers, drops_bind, drops_together, type_of_drops, make_function_drops, make_generator_drops, given_drops, give_drops, outside_drops, new_object_drops, applied_drops}
 use Rattle.ecma_extract_runs.specs.Evaluated.{evaluated, declares_no_global}
 use Rattle.ecma_extract_runs.specs.Fits.{is_list, is_single_item, single_by, item_by, is_item, lists_items, all_fit, fits_by, fits}
 use Rattle.ecma_extract_runs.proofs.Leading.{Led, Undone, undone_leads, undone_on, undone_behind, raised, unnested, Leads, drops_lead, outside_leads, lead_drop, lead_bind, drop_bind, lead_append}
 
+-- no scope around declares a name with the context of what is not resolved, and no name is that of a member of an enum
+abbrev pub IsLone : ExprCtx → ExecutionContext → Type 0
+IsLone ctx x = (declares_no_global ctx x.scope ≡ true) × (x.known.enums.names ≡ [])
+
 -- what is shown of a node: of it are left these expressions
 pub record Claim (ctx : ExprCtx) (n : Node) (fit item name opens : Bool) (es : List Node) (m : Meaning) : Type 0 where
-  pub value : {w : World} (c : Contexts w) → fit ≡ true → declares_no_global ctx c.scope ≡ true → Leads w (m.value (first c)) (evaluated es (second c))
-  pub elements : {w : World} (c : Contexts w) → fit ≡ true → item ≡ true → declares_no_global ctx c.scope ≡ true → Leads w (m.elements (first c)) (evaluated es (second c))
-  pub texts : {w : World} (c : Contexts w) → fit ≡ true → item ≡ true → declares_no_global ctx c.scope ≡ true → Leads w (m.texts (first c)) (evaluated es (second c))
-  pub key : {w : World} (c : Contexts w) → fit ≡ true → declares_no_global ctx c.scope ≡ true → Leads w (m.key (first c)) (evaluated es (second c))
-  pub defined : {w : World} (c : Contexts w) (a o : ℕ) → Among o w.free → fit ≡ true → item ≡ true → declares_no_global ctx c.scope ≡ true → Leads w (m.defined a o (first c)) (evaluated es (second c))
+  pub value : {w : World} (c : Contexts w) → fit ≡ true → IsLone ctx (first c) → Leads w (m.value (first c)) (evaluated es (second c))
+  pub elements : {w : World} (c : Contexts w) → fit ≡ true → item ≡ true → IsLone ctx (first c) → Leads w (m.elements (first c)) (evaluated es (second c))
+  pub texts : {w : World} (c : Contexts w) → fit ≡ true → item ≡ true → IsLone ctx (first c) → Leads w (m.texts (first c)) (evaluated es (second c))
+  pub key : {w : World} (c : Contexts w) → fit ≡ true → IsLone ctx (first c) → Leads w (m.key (first c)) (evaluated es (second c))
+  pub defined : {w : World} (c : Contexts w) (a o : ℕ) → Among o w.free → fit ≡ true → item ≡ true → IsLone ctx (first c) → Leads w (m.defined a o (first c)) (evaluated es (second c))
   pub never_defined : opens ≡ true → (a o : ℕ) (x : ExecutionContext) (s : State) → Undone (m.defined a o x s)
   pub made : {w : World} (x : ExecutionContext) (sort : Sort) (home : Option ℕ) → Drops w (m.made sort home x)
-  pub named : {w : World} (c : Contexts w) → name ≡ true → Drops w (m.reference (first c) >>= λ r. read_typed (first c) r)
-  pub typed : {w : World} (c : Contexts w) → fit ≡ true → name ≡ false → declares_no_global ctx c.scope ≡ true → Leads w (m.reference (first c) >>= λ r. read_typed (first c) r) (evaluated es (second c))
-  pub date : is_date ctx n ≡ true → (x : ExecutionContext) → declares_no_global ctx x.scope ≡ true → (s : State) → Undone (then_outcome (m.reference x s) (λ r. read_object x r))
+  pub named : {w : World} (c : Contexts w) → IsLone ctx (first c) → name ≡ true → Drops w (m.reference (first c) >>= λ r. read_typed (first c) r)
+  pub typed : {w : World} (c : Contexts w) → fit ≡ true → name ≡ false → IsLone ctx (first c) → Leads w (m.reference (first c) >>= λ r. read_typed (first c) r) (evaluated es (second c))
+  pub date : is_date ctx n ≡ true → (x : ExecutionContext) → IsLone ctx x → (s : State) → Undone (then_outcome (m.reference x s) (λ r. read_object x r))
   pub link : (optional : Bool) (x : ExecutionContext) → IsBound (m.link optional x >>= λ o. give (chained o))
 
 -- a spread and `a = e`, or a list of properties with one
@@ -66,7 +70,7 @@ opens n = opens_by (out-Node n).kind (out-Node n).children
 pub record Here (n : Node) (ns : List Node) (only : Bool) (m : Evaluation Value) : Type 0 where
   pub shape : (out-Node n).children ≡ ns
   pub whole : {w : World} (c : Contexts w) → Leads w (m (first c)) (evaluated (n ∷ []) (second c))
-  pub drops : {w : World} (c : Contexts w) → only ≡ true → Drops w (m (first c))
+  pub drops : {w : World} (c : Contexts w) → NoMembers c → only ≡ true → Drops w (m (first c))
 
 module _ (ctx : ExprCtx) where
   abbrev pub Child : Type 0
@@ -101,7 +105,7 @@ module _ (ctx : ExprCtx) where
 
   -- ---- lists
 
-  elements_lead : {w : World} (c : Contexts w) (ps : List Child) → fit_all ps ≡ true → list_all is_single_item (nodes ps) ≡ true → declares_no_global ctx c.scope ≡ true
+  elements_lead : {w : World} (c : Contexts w) (ps : List Child) → fit_all ps ≡ true → list_all is_single_item (nodes ps) ≡ true → IsLone ctx (first c)
       → Leads w (all_elements (meanings ps) (first c)) (evaluated (kept_of ps) (second c))
   elements_lead c [] f i d = drops_lead (give_drops [])
   elements_lead c (p ∷ ps) f i d =
@@ -109,7 +113,7 @@ module _ (ctx : ExprCtx) where
       let j = both_true (is_single_item p.0) (list_all is_single_item (nodes ps)) i in
       lead_append (extracted ctx p.0) (kept_of ps) (second c) (lead_bind (p.1.elements c g.0 (single_is_item p.0 j.0) d) (λ v u vs. lead_drop (elements_lead (later u c) ps g.1 j.1 d) (λ _ _ ws. give_drops (vs ++ ws))))
 
-  texts_lead : {w : World} (c : Contexts w) (ps : List Child) → fit_all ps ≡ true → list_all is_single_item (nodes ps) ≡ true → declares_no_global ctx c.scope ≡ true
+  texts_lead : {w : World} (c : Contexts w) (ps : List Child) → fit_all ps ≡ true → list_all is_single_item (nodes ps) ≡ true → IsLone ctx (first c)
       → Leads w (all_texts (meanings ps) (first c)) (evaluated (kept_of ps) (second c))
   texts_lead c [] f i d = drops_lead (give_drops [])
   texts_lead c (p ∷ ps) f i d =
@@ -117,7 +121,7 @@ module _ (ctx : ExprCtx) where
       let j = both_true (is_single_item p.0) (list_all is_single_item (nodes ps)) i in
       lead_append (extracted ctx p.0) (kept_of ps) (second c) (lead_bind (p.1.texts c g.0 (single_is_item p.0 j.0) d) (λ v u vs. lead_drop (texts_lead (later u c) ps g.1 j.1 d) (λ _ _ ws. give_drops (vs ++ ws))))
 
-  sequence_leads : {w : World} (c : Contexts w) (ps : List Child) → fit_all ps ≡ true → declares_no_global ctx c.scope ≡ true → Leads w (sequence (meanings ps) (first c)) (evaluated (kept_of ps) (second c))
+  sequence_leads : {w : World} (c : Contexts w) (ps : List Child) → fit_all ps ≡ true → IsLone ctx (first c) → Leads w (sequence (meanings ps) (first c)) (evaluated (kept_of ps) (second c))
   sequence_leads c [] f d = outside_leads
   sequence_leads c (p ∷ []) f d = alone (extracted ctx p.0) (second c) (p.1.value c (both_true (fits p.0) true f).0 d)
   sequence_leads c (p ∷ q ∷ ps) f d =
@@ -143,7 +147,7 @@ module _ (ctx : ExprCtx) where
           undone_behind (λ ks. all_defined (meanings ps) a o x >>= λ ls. give (ks ++ ls)) (λ ks t. undone_on (λ ls. give (ks ++ ls))
           (rest (subst (λ b. (b || list_any (has_kind is_kept) (nodes ps)) ≡ true) e h) t)) ((meaning p.0).defined a o x s)
 
-  pub defined_lead : {w : World} (c : Contexts w) (ps : List Child) (a o : ℕ) → Among o w.free → fit_all ps ≡ true → list_all is_single_item (nodes ps) ≡ true → declares_no_global ctx c.scope ≡ true
+  pub defined_lead : {w : World} (c : Contexts w) (ps : List Child) (a o : ℕ) → Among o w.free → fit_all ps ≡ true → list_all is_single_item (nodes ps) ≡ true → IsLone ctx (first c)
       → Leads w (all_defined (meanings ps) a o (first c)) (evaluated (kept_of ps) (second c))
   defined_lead c [] a o m f i d = drops_lead (give_drops [])
   defined_lead c (p ∷ ps) a o m f i d =
@@ -155,7 +159,7 @@ module _ (ctx : ExprCtx) where
   -- ---- operators
 
   binary_leads : {w : World} (c : Contexts w) (n : Node) (op : BinaryOp) (left right : Child) → Here n (nodes (left ∷ right ∷ [])) (only_by (kind.BinExpr op) (map making (nodes (left ∷ right ∷ [])))) (value_of n (kind.BinExpr op) (meanings (left ∷ right ∷ [])))
-      → fit_all (left ∷ right ∷ []) ≡ true → declares_no_global ctx c.scope ≡ true
+      → fit_all (left ∷ right ∷ []) ≡ true → IsLone ctx (first c)
       → Leads w (value_of n (kind.BinExpr op) (meanings (left ∷ right ∷ [])) (first c)) (evaluated (left_of ctx (binary_way op) n (keeps (left ∷ right ∷ []))) (second c))
   binary_leads c n LogicalOr left right here f d = here.whole c
   binary_leads c n LogicalAnd left right here f d = here.whole c
@@ -166,7 +170,7 @@ module _ (ctx : ExprCtx) where
       alone (extracted ctx right.0) (second c) (lead_drop (right.1.value (later u c) (both_true (fits right.0) true g.1).0 d) (λ _ _ b. applied_drops op a b))))
 
   unary_leads : {w : World} (c : Contexts w) (n : Node) (op : UnaryOp) (operand : Child) → Here n (nodes (operand ∷ [])) (only_by (kind.UnaryExpr op) (map making (nodes (operand ∷ [])))) (value_of n (kind.UnaryExpr op) (meanings (operand ∷ [])))
-      → fit_all (operand ∷ []) ≡ true → declares_no_global ctx c.scope ≡ true
+      → fit_all (operand ∷ []) ≡ true → IsLone ctx (first c)
       → Leads w (value_of n (kind.UnaryExpr op) (meanings (operand ∷ [])) (first c)) (evaluated (left_of ctx (unary_way op n) n (keeps (operand ∷ []))) (second c))
   unary_leads c n operator.Delete operand here f d = here.whole c
   unary_leads {w} c n operator.TypeOf operand here f d = by (passes_at is_name 0 n) refl
@@ -175,7 +179,7 @@ module _ (ctx : ExprCtx) where
       operand_name b e = sym (ap (λ (ns : List Node). option_map_or is_name (slice_get ns 0) false) here.shape) ∙ e
 
       by : (b : Bool) → passes_at is_name 0 n ≡ b → Leads w (value_of n (kind.UnaryExpr operator.TypeOf) (meanings (operand ∷ [])) (first c)) (evaluated (left_of ctx (unary_way operator.TypeOf n) n (keeps (operand ∷ []))) (second c))
-      by true e = rw e (drops_lead (drops_together ((meaning operand.0).reference (first c)) (λ r. read_typed (first c) r) type_of (drops_bind (operand.1.named c (operand_name true e)) (λ v. type_of_drops v))))
+      by true e = rw e (drops_lead (drops_together ((meaning operand.0).reference (first c)) (λ r. read_typed (first c) r) type_of (drops_bind (operand.1.named c d (operand_name true e)) (λ v. type_of_drops v))))
       by false e =
           rw e (alone (extracted ctx operand.0) (second c)
           (unnested ((meaning operand.0).reference (first c)) (λ r. read_typed (first c) r) type_of (lead_drop (operand.1.typed c (both_true (fits operand.0) true f).0 (operand_name false e) d) (λ _ _ v. type_of_drops v))))
@@ -186,22 +190,22 @@ module _ (ctx : ExprCtx) where
 
   module _ (n : Node) where
     pub value_leads : {w : World} (c : Contexts w) (k : Kind) (ps : List Child) → Here n (nodes ps) (only_by k (map making (nodes ps))) (value_of n k (meanings ps))
-        → fits_by k (nodes ps) (map fits (nodes ps)) ≡ true → declares_no_global ctx c.scope ≡ true
+        → fits_by k (nodes ps) (map fits (nodes ps)) ≡ true → IsLone ctx (first c)
         → Leads w (value_of n k (meanings ps) (first c)) (evaluated (left_of ctx (way_by ctx k n) n (keeps ps)) (second c))
     unfolding way_by part_way_by
     value_leads {w} c (kind.Ident name ctxt optional) ps here f d = by (judged ctx n).effects refl
       where
         by : (b : Bool) → (judged ctx n).effects ≡ b → Leads w (value_of n (kind.Ident name ctxt optional) (meanings ps) (first c)) (evaluated (left_of ctx (name_way ctx n) n (keeps ps)) (second c))
         by true e = rw e (here.whole c)
-        by false e = rw e (drops_lead (here.drops c refl))
-    value_leads c (kind.Str text raw) ps here f d = drops_lead (here.drops c refl)
-    value_leads c (kind.Bool truth) ps here f d = drops_lead (here.drops c refl)
-    value_leads c kind.Null ps here f d = drops_lead (here.drops c refl)
-    value_leads c (kind.Number number raw) ps here f d = drops_lead (here.drops c refl)
-    value_leads c (kind.Regex exp flags) ps here f d = drops_lead (here.drops c refl)
-    value_leads c kind.ThisExpr ps here f d = drops_lead (here.drops c refl)
-    value_leads c kind.FnExpr ps here f d = drops_lead (here.drops c refl)
-    value_leads c (kind.ArrowExpr is_async is_generator) ps here f d = drops_lead (here.drops c refl)
+        by false e = rw e (drops_lead (here.drops c d.1 refl))
+    value_leads c (kind.Str text raw) ps here f d = drops_lead (here.drops c d.1 refl)
+    value_leads c (kind.Bool truth) ps here f d = drops_lead (here.drops c d.1 refl)
+    value_leads c kind.Null ps here f d = drops_lead (here.drops c d.1 refl)
+    value_leads c (kind.Number number raw) ps here f d = drops_lead (here.drops c d.1 refl)
+    value_leads c (kind.Regex exp flags) ps here f d = drops_lead (here.drops c d.1 refl)
+    value_leads c kind.ThisExpr ps here f d = drops_lead (here.drops c d.1 refl)
+    value_leads c kind.FnExpr ps here f d = drops_lead (here.drops c d.1 refl)
+    value_leads c (kind.ArrowExpr is_async is_generator) ps here f d = drops_lead (here.drops c d.1 refl)
     value_leads c (kind.UnaryExpr op) (operand ∷ []) here f d = unary_leads c n op operand here f d
     value_leads c (kind.UnaryExpr op) [] here f d = outside_leads
     value_leads c (kind.UnaryExpr op) (p ∷ q ∷ ps) here f d = outside_leads
@@ -276,7 +280,7 @@ module _ (ctx : ExprCtx) where
     value_leads c k ps here f d = here.whole c
 
     pub elements_of_lead : {w : World} (c : Contexts w) (k : Kind) (ps : List Child) → Here n (nodes ps) (only_by k (map making (nodes ps))) (value_of n k (meanings ps)) → has_no_effect k (meanings ps) ≡ false
-        → fits_by k (nodes ps) (map fits (nodes ps)) ≡ true → item_by k (nodes ps) (single_by k (meanings ps)) ≡ true → declares_no_global ctx c.scope ≡ true
+        → fits_by k (nodes ps) (map fits (nodes ps)) ≡ true → item_by k (nodes ps) (single_by k (meanings ps)) ≡ true → IsLone ctx (first c)
         → Leads w (elements_of n k (meanings ps) (first c)) (evaluated (left_of ctx (way_by ctx k n) n (keeps ps)) (second c))
     unfolding way_by part_way_by
     elements_of_lead c kind.Absent ps here e f i d = drops_lead (give_drops _)
@@ -285,14 +289,14 @@ module _ (ctx : ExprCtx) where
     elements_of_lead c k ps here e f i d = lead_drop (value_leads c k ps here f d) (λ _ _ v. give_drops (Some v ∷ []))
 
     pub texts_of_lead : {w : World} (c : Contexts w) (k : Kind) (ps : List Child) → Here n (nodes ps) (only_by k (map making (nodes ps))) (value_of n k (meanings ps)) → has_no_effect k (meanings ps) ≡ false
-        → fits_by k (nodes ps) (map fits (nodes ps)) ≡ true → item_by k (nodes ps) (single_by k (meanings ps)) ≡ true → declares_no_global ctx c.scope ≡ true
+        → fits_by k (nodes ps) (map fits (nodes ps)) ≡ true → item_by k (nodes ps) (single_by k (meanings ps)) ≡ true → IsLone ctx (first c)
         → Leads w (texts_of n k (meanings ps) (first c)) (evaluated (left_of ctx (way_by ctx k n) n (keeps ps)) (second c))
     unfolding way_by part_way_by
     texts_of_lead c kind.List ps here e f i d = texts_lead c ps f i d
     texts_of_lead c (kind.TsTypeAliasDecl declare) ps here e f i d = absurd (false≢true (sym e))
     texts_of_lead c k ps here e f i d = lead_drop (value_leads c k ps here f d) (λ _ _ v. drops_bind (given_drops (text_from v)) (λ t. give_drops (t ∷ [])))
 
-    pub key_leads : {w : World} (c : Contexts w) (k : Kind) (ps : List Child) → fits_by k (nodes ps) (map fits (nodes ps)) ≡ true → declares_no_global ctx c.scope ≡ true
+    pub key_leads : {w : World} (c : Contexts w) (k : Kind) (ps : List Child) → fits_by k (nodes ps) (map fits (nodes ps)) ≡ true → IsLone ctx (first c)
         → Leads w (key_of k (meanings ps) (first c)) (evaluated (left_of ctx (way_by ctx k n) n (keeps ps)) (second c))
     unfolding way_by part_way_by
     key_leads c (kind.IdentName name) [] f d = drops_lead (give_drops _)

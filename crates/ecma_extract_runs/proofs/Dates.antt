@@ -8,7 +8,9 @@ use Rattle.ecma_runs.specs.State.{Id, same_id, Entered, State}
 use Rattle.ecma_runs.specs.Run.{Outcome, Done, Thrown, Returned, Broken, Continued, Ended, Run, then_outcome, ◌>>=◌, give, outside, when}
 use Rattle.ecma_runs.specs.Environment.{Reference, ToVariable, ToFree, resolved, is_among}
 use Rattle.ecma_runs.specs.Host.{is_open_object}
+use Rattle.ecma_runs.specs.Enums.{enum_of, is_hidden}
 use Rattle.ecma_runs.specs.Meaning.{ExecutionContext}
+use Rattle.ecma_runs.specs.Expressions.{named}
 use Rattle.ecma_runs.specs.Functions.{read_object}
 use Rattle.ecma_runs.proofs.Names.{same_id-equal}
 use Rattle.ecma_extract_runs.specs.Evaluated.{declares_no_global}
@@ -58,6 +60,10 @@ module _ (ctx : ExprCtx) (id : Id) (unresolved : (id.ctxt == ctx.unresolved_ctxt
       by true m h = undone_end
       by false m h = absurd (false≢true h)
 
+  hidden_undone : (x : ExecutionContext) (b : Bool) (m : Run Reference) (s : State) → Undone (then_outcome (m s) (λ r. read_object x r)) → Undone (then_outcome (when b outside m s) (λ r. read_object x r))
+  hidden_undone x true m s h = undone_end
+  hidden_undone x false m s h = h
+
   passed : (x : ExecutionContext) (b : Bool) → b ≡ false → (m m' : Run Reference) (s : State) → Undone (then_outcome (m' s) (λ r. read_object x r)) → Undone (then_outcome (when b m m' s) (λ r. read_object x r))
   passed x false h m m' s g = g
   passed x true h m m' s g = absurd (false≢true (sym h))
@@ -68,3 +74,10 @@ module _ (ctx : ExprCtx) (id : Id) (unresolved : (id.ctxt == ctx.unresolved_ctxt
   date_undone x (e ∷ outer) d is declared s =
       let t = both_true (list_all (λ (z : Id). not (z.ctxt == ctx.unresolved_ctxt)) e.ids) (declares_no_global ctx outer) d in
       passed x (is_among id e.ids) (none_among e.ids t.0) (give (ToVariable e.place id)) (resolved outer declared id) s (date_undone x outer t.1 is declared s)
+
+  -- where it is no member's
+  pub name_undone : (x : ExecutionContext) → declares_no_global ctx x.scope ≡ true → x.known.enums.names ≡ [] → bytes_eq id.sym (codes "Date") ≡ true → (s : State)
+      → Undone (then_outcome (named (enum_of id x.known.enums.names) id x s) (λ r. read_object x r))
+  name_undone x d none is s =
+      subst (λ names. Undone (then_outcome (named (enum_of id names) id x s) (λ r. read_object x r))) (sym none)
+      (hidden_undone x (is_hidden x.known.enums id) (resolved x.scope x.known.declared id) s (date_undone x x.scope d is x.known.declared s))

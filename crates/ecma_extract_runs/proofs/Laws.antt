@@ -19,11 +19,12 @@ use Rattle.ecma_run_places.specs.Worlds.{World, Above, Like, States}
 use Rattle.ecma_run_places.specs.Alike.{Outcomes, both_done, both_thrown, both_returned, both_broken, both_continued, both_ended, Contexts, first, second}
 use Rattle.ecma_run_places.proofs.Growing.{above, later}
 use Rattle.ecma_run_places.proofs.Nodes.{means_alike}
-use Rattle.ecma_extract_runs.specs.Evaluated.{evaluated, declares_no_global}
+use Rattle.ecma_extract_runs.specs.Evaluated.{evaluated}
 use Rattle.ecma_extract_runs.specs.Fits.{fits}
 use Rattle.ecma_extract_runs.specs.Laws.{ComesTo, ExtractionKeepsEffects, PreservationKeepsEffects, SortedExpressionsFit, ExtractionOfExpressionsKeepsEffects, are_expressions, PreservationOfExpressionsKeepsEffects}
 use Rattle.ecma_extract_runs.proofs.Leading.{Led, led, Leads, assoc, drops_lead, lead_bind, lead_append}
 use Rattle.ecma_extract_runs.proofs.Dates.{both_true}
+use Rattle.ecma_extract_runs.proofs.ByKind.{IsLone}
 use Rattle.ecma_extract_runs.proofs.Nodes.{claim}
 use Rattle.ecma_extract_runs.proofs.Sorted.{shape_fits}
 use Rattle.ecma_run_places.proofs.Idle.{give_drops}
@@ -32,11 +33,11 @@ comes : {w : World} {A : Type 0} {a : A} {t : State} {r : Outcome (Unit {0})} �
 comes (led {v = v} {t' = t'} p st) = record { world = v; state = t'; is = refl; above = p; states = st }
 
 pub extraction_keeps_effects : ExtractionKeepsEffects
-extraction_keeps_effects ctx e w c s s' t v f d st done = comes (subst (λ r. Led w r (evaluated (extracted ctx e) (second c) s')) done (((claim ctx e).value c f d).at st))
+extraction_keeps_effects ctx e w c s s' t v f d none st done = comes (subst (λ r. Led w r (evaluated (extracted ctx e) (second c) s')) done (((claim ctx e).value c f (d, none)).at st))
 
 -- ---- effects in front of a value
 
-all_lead : {w : World} (ctx : ExprCtx) (exprs : List Node) (c : Contexts w) → list_all fits exprs ≡ true → declares_no_global ctx c.scope ≡ true → Leads w (evaluated exprs (first c)) (evaluated (extracted_all ctx exprs) (second c))
+all_lead : {w : World} (ctx : ExprCtx) (exprs : List Node) (c : Contexts w) → list_all fits exprs ≡ true → IsLone ctx (first c) → Leads w (evaluated exprs (first c)) (evaluated (extracted_all ctx exprs) (second c))
 all_lead ctx [] c f d = drops_lead (give_drops tt)
 all_lead ctx (e ∷ exprs) c f d =
     let g = both_true (fits e) (list_all fits exprs) f in
@@ -65,14 +66,14 @@ then_value {w} c val {t} h =
     subst (λ o. Outcomes w Like ((meaning val).value (first c) t) (then_outcome o (λ _. (meaning val).value (second c)))) (sym h.is)
     (outcomes_raised h.above (((means_alike val).value (later h.above c)).at h.states))
 
-preserved_alike : (ctx : ExprCtx) (span : Span) (val : Node) (exprs : List Node) (w : World) (c : Contexts w) (s s' t : State) → list_all fits exprs ≡ true → declares_no_global ctx c.scope ≡ true → States w s s'
+preserved_alike : (ctx : ExprCtx) (span : Span) (val : Node) (exprs : List Node) (w : World) (c : Contexts w) (s s' t : State) → list_all fits exprs ≡ true → IsLone ctx (first c) → States w s s'
     → evaluated exprs (first c) s ≡ Done tt t → Outcomes w Like ((meaning val).value (first c) t) ((meaning (preserved ctx span val exprs)).value (second c) s')
 preserved_alike ctx span val exprs w c s s' t f d st done =
     subst (λ o. Outcomes w Like ((meaning val).value (first c) t) o) (sym (in_front_value span (extracted_all ctx exprs) val (second c) s'))
     (then_value c val (comes (subst (λ r. Led w r (evaluated (extracted_all ctx exprs) (second c) s')) done ((all_lead ctx exprs c f d).at st))))
 
 pub preservation_keeps_effects : PreservationKeepsEffects
-preservation_keeps_effects = record { is = λ ctx span val exprs w c s s' t f d st done. preserved_alike ctx span val exprs w c s s' t f d st done }
+preservation_keeps_effects = record { is = λ ctx span val exprs w c s s' t f d none st done. preserved_alike ctx span val exprs w c s s' t f (d, none) st done }
 
 -- ---- of expressions
 
@@ -87,4 +88,4 @@ expressions_fit [] h = refl
 expressions_fit (e ∷ es) h = let t = both_true (has_shape e (one sort.Expr)) (are_expressions es) h in rw (sorted_expressions_fit e t.0, expressions_fit es t.1) refl
 
 pub preservation_of_expressions_keeps_effects : PreservationOfExpressionsKeepsEffects
-preservation_of_expressions_keeps_effects = record { is = λ ctx span val exprs w c s s' t sorted d st done. preserved_alike ctx span val exprs w c s s' t (expressions_fit exprs sorted) d st done }
+preservation_of_expressions_keeps_effects = record { is = λ ctx span val exprs w c s s' t sorted d none st done. preserved_alike ctx span val exprs w c s s' t (expressions_fit exprs sorted) (d, none) st done }

@@ -13,7 +13,7 @@ use Rattle.ecma_runs.specs.Run.{Run}
 use Rattle.ecma_runs.specs.Meaning.{ExecutionContext, Meaning}
 use Rattle.ecma_runs.specs.Expressions.{value_of}
 use Rattle.ecma_runs.specs.Declarations.{has_no_effect}
-use Rattle.ecma_runs.specs.Evaluation.{role_by, no_effect, constant_meaning, set_export, ending_chain, meaning_by, meaning}
+use Rattle.ecma_runs.specs.Evaluation.{role_by, no_effect, constant_meaning, set_export, enum_meaning, member_meaning, ending_chain, meaning_by, meaning}
 use Rattle.ecma_runs.proofs.Layer.{meaning_out}
 use Rattle.ecma_run_places.specs.Alike.{Contexts, first, second}
 use Rattle.ecma_run_places.specs.Worlds.{World}
@@ -45,7 +45,7 @@ module _ (ctx : ExprCtx) (n : Node) where
   here_of k ps mean shape only = record {
     shape = shape;
     whole = λ c. moved c n mean (alike_leads ((means_alike n).value c));
-    drops = λ c h. moved_drops c mean (only_makes_drops n (only ∙ h) c);
+    drops = λ c none h. moved_drops c mean (only_makes_drops n (only ∙ h) c none);
   }
 
   -- ---- what gives nothing
@@ -59,7 +59,7 @@ module _ (ctx : ExprCtx) (n : Node) where
     defined = λ c a o m f i d. to_same (second c) (none i) (drops_lead (give_drops []));
     never_defined = λ h a o x s. absurd (never' h);
     made = λ x sort home. outside_drops;
-    named = λ c h. record { at = λ st. dropped_end };
+    named = λ c d h. record { at = λ st. dropped_end };
     typed = λ c f h d. record { at = λ st. led_end };
     date = λ h x d s. undone_end;
     link = λ optional x. record { at = λ s. bounded_end };
@@ -74,7 +74,7 @@ module _ (ctx : ExprCtx) (n : Node) where
     defined = λ c a o m f i d. outside_leads;
     never_defined = λ h a o x s. absurd (false≢true h);
     made = λ x sort home. outside_drops;
-    named = λ c h. record { at = λ st. dropped_end };
+    named = λ c d h. record { at = λ st. dropped_end };
     typed = λ c f h d. record { at = λ st. led_end };
     date = λ h x d s. undone_end;
     link = λ optional x. record { at = λ s. bounded_end };
@@ -89,7 +89,7 @@ module _ (ctx : ExprCtx) (n : Node) where
     defined = λ c a o m f i d. outside_leads;
     never_defined = λ h a o x s. absurd (false≢true h);
     made = λ x sort home. outside_drops;
-    named = λ c h. record { at = λ st. dropped_end };
+    named = λ c d h. record { at = λ st. dropped_end };
     typed = λ c f h d. record { at = λ st. led_end };
     date = λ h x d s. undone_end;
     link = λ optional x. record { at = λ s. bounded_end };
@@ -104,7 +104,37 @@ module _ (ctx : ExprCtx) (n : Node) where
     defined = λ c a o m f i d. outside_leads;
     never_defined = λ h a o x s. absurd (false≢true h);
     made = λ x sort home. outside_drops;
-    named = λ c h. record { at = λ st. dropped_end };
+    named = λ c d h. record { at = λ st. dropped_end };
+    typed = λ c f h d. record { at = λ st. led_end };
+    date = λ h x d s. undone_end;
+    link = λ optional x. record { at = λ s. bounded_end };
+  }
+
+  enum_claim : (fit item name is_const : Bool) (es : List Node) (left right : Meaning) → Claim ctx n fit item name false es (enum_meaning n is_const left right)
+  enum_claim fit item name is_const es left right = record {
+    value = λ c f d. outside_leads;
+    elements = λ c f i d. record { at = λ st. led_end };
+    texts = λ c f i d. record { at = λ st. led_end };
+    key = λ c f d. outside_leads;
+    defined = λ c a o m f i d. outside_leads;
+    never_defined = λ h a o x s. absurd (false≢true h);
+    made = λ x sort home. outside_drops;
+    named = λ c d h. record { at = λ st. dropped_end };
+    typed = λ c f h d. record { at = λ st. led_end };
+    date = λ h x d s. undone_end;
+    link = λ optional x. record { at = λ s. bounded_end };
+  }
+
+  member_claim : (fit item name : Bool) (es : List Node) (left right : Meaning) → Claim ctx n fit item name false es (member_meaning n left right)
+  member_claim fit item name es left right = record {
+    value = λ c f d. outside_leads;
+    elements = λ c f i d. record { at = λ st. led_end };
+    texts = λ c f i d. record { at = λ st. led_end };
+    key = λ c f d. outside_leads;
+    defined = λ c a o m f i d. outside_leads;
+    never_defined = λ h a o x s. absurd (false≢true h);
+    made = λ x sort home. outside_drops;
+    named = λ c d h. record { at = λ st. dropped_end };
     typed = λ c f h d. record { at = λ st. led_end };
     date = λ h x d s. undone_end;
     link = λ optional x. record { at = λ s. bounded_end };
@@ -126,7 +156,7 @@ module _ (ctx : ExprCtx) (n : Node) where
     defined = λ c a o m f i d. to_same (second c) kept (e.1.defined c a o m (to f).1 (to f).0 d);
     never_defined = λ h a o x s. absurd (false≢true h);
     made = λ x sort home. e.1.made x sort home;
-    named = λ c h. e.1.named c (sym same ∙ h);
+    named = λ c d h. e.1.named c d (sym same ∙ h);
     typed = λ c f h d. to_same (second c) kept (e.1.typed c (to f).1 (sym same ∙ h) d);
     date = λ h x d s. absurd (never h);
     link = λ optional x. e.1.link optional x;
@@ -194,6 +224,15 @@ module _ (ctx : ExprCtx) (n : Node) where
   step_claim (kind.TsImportEqualsDecl false false) (name ∷ source ∷ []) mean shape only same = constant_claim (fits_by (kind.TsImportEqualsDecl false false) (nodes ctx (name ∷ source ∷ [])) (map fits (nodes ctx (name ∷ source ∷ [])))) (item_by (kind.TsImportEqualsDecl false false) (nodes ctx (name ∷ source ∷ [])) (single_by (kind.TsImportEqualsDecl false false) (meanings ctx (name ∷ source ∷ [])))) (is_name_by (kind.TsImportEqualsDecl false false) (map is_name (nodes ctx (name ∷ source ∷ [])))) (left_of ctx (way_by ctx (kind.TsImportEqualsDecl false false) n) n (keeps ctx (name ∷ source ∷ []))) (meaning name.0) (meaning source.0)
   step_claim (kind.TsImportEqualsDecl true false) (name ∷ source ∷ []) mean shape only same = either_claim (fits_by (kind.TsImportEqualsDecl true false) (nodes ctx (name ∷ source ∷ [])) (map fits (nodes ctx (name ∷ source ∷ [])))) (item_by (kind.TsImportEqualsDecl true false) (nodes ctx (name ∷ source ∷ [])) (single_by (kind.TsImportEqualsDecl true false) (meanings ctx (name ∷ source ∷ [])))) (is_name_by (kind.TsImportEqualsDecl true false) (map is_name (nodes ctx (name ∷ source ∷ [])))) (left_of ctx (way_by ctx (kind.TsImportEqualsDecl true false) n) n (keeps ctx (name ∷ source ∷ []))) (meaning source.0).is_required
       (constant_claim _ _ _ _ (meaning name.0) (set_export n (meaning name.0) (meaning source.0))) (exported_claim _ _ _ _ (constant_meaning n (meaning name.0) (meaning source.0) ∷ []))
+  step_claim (kind.TsEnumDecl false is_const) (name ∷ members ∷ []) mean shape only same =
+      enum_claim (fits_by (kind.TsEnumDecl false is_const) (nodes ctx (name ∷ members ∷ [])) (map fits (nodes ctx (name ∷ members ∷ []))))
+          (item_by (kind.TsEnumDecl false is_const) (nodes ctx (name ∷ members ∷ [])) (single_by (kind.TsEnumDecl false is_const) (meanings ctx (name ∷ members ∷ []))))
+      (is_name_by (kind.TsEnumDecl false is_const) (map is_name (nodes ctx (name ∷ members ∷ [])))) is_const (left_of ctx (way_by ctx (kind.TsEnumDecl false is_const) n) n (keeps ctx (name ∷ members ∷ []))) (meaning name.0)
+          (meaning members.0)
+  step_claim kind.TsEnumMember (name ∷ init ∷ []) mean shape only same =
+      member_claim (fits_by kind.TsEnumMember (nodes ctx (name ∷ init ∷ [])) (map fits (nodes ctx (name ∷ init ∷ []))))
+          (item_by kind.TsEnumMember (nodes ctx (name ∷ init ∷ [])) (single_by kind.TsEnumMember (meanings ctx (name ∷ init ∷ []))))
+      (is_name_by kind.TsEnumMember (map is_name (nodes ctx (name ∷ init ∷ [])))) (left_of ctx (way_by ctx kind.TsEnumMember n) n (keeps ctx (name ∷ init ∷ []))) (meaning name.0) (meaning init.0)
   step_claim k ps mean shape only same = by_effect k ps (has_no_effect k (meanings ctx ps)) refl mean shape only same
 
   -- ---- the node itself

@@ -2,14 +2,16 @@
 use Rattle.std.proofs.Common.{◌≡◌, refl, sym, ap, subst, ℕ, List, [], ◌∷◌, Option, Some, None, Bool, true, false, ◌&&◌, bytes_eq, codes}
 use Rattle.ecma_kind.specs.declared.kind.Kind.{Kind}
 use Rattle.ecma_kind.specs.declared.kind.Kind.TheVariants as kind
-use Rattle.ecma_runs.specs.Values.{Value, Undefined, is_nullish}
+use Rattle.ecma_tree.specs.declared.node.Node.{Node}
+use Rattle.ecma_runs.specs.Values.{Value, Undefined, Own, is_nullish}
 use Rattle.ecma_runs.specs.State.{State}
-use Rattle.ecma_runs.specs.Run.{Stop, Outcome, Done, Thrown, Returned, Broken, Continued, Ended, Run, then_outcome, ◌>>=◌, give, outside, when, given}
+use Rattle.ecma_runs.specs.Run.{Stop, Outcome, Done, Thrown, Returned, Broken, Continued, Ended, Run, then_outcome, ◌>>=◌, give, outside, when, given, catching}
 use Rattle.ecma_runs.specs.Environment.{Reference, ToMember, ToSuper, ToImportMeta, ToMetaMember, ToValue, activation}
-use Rattle.ecma_runs.specs.Meaning.{ExecutionContext, Meaning}
-use Rattle.ecma_runs.specs.Objects.{super_base}
+use Rattle.ecma_runs.specs.Meaning.{ExecutionContext, Evaluation, Meaning}
+use Rattle.ecma_runs.specs.Enums.{Reading, Unknown, Constant, Expected, reading, is_data}
+use Rattle.ecma_runs.specs.Objects.{found_from, super_base}
 use Rattle.ecma_runs.specs.Functions.{read, read_object, read_typed, callee_by, call}
-use Rattle.ecma_runs.specs.Expressions.{chained, continued, callee_is_nullish, member_of, member_reference, super_reference, member_link, call_link, link_of}
+use Rattle.ecma_runs.specs.Expressions.{chained, continued, callee_is_nullish, expected, known_reference, member_of, member_reference, read_member, super_reference, member_link, call_link, link_of}
 use Rattle.ecma_run_places.specs.Worlds.{World, States}
 use Rattle.ecma_extract_runs.proofs.Leading.{Led, Leads}
 
@@ -58,12 +60,28 @@ meta_bound : (b : Bool) (v : Value) → IsBound (when b (give (ToMetaMember v)) 
 meta_bound true v = bound_to (ToMetaMember v) (λ x. refl)
 meta_bound false v = bound_outside
 
+value_bound : (b : Bool) (v : Value) → IsBound (when b (give (ToValue v)) outside)
+value_bound true v = bound_to (ToValue v) (λ x. refl)
+value_bound false v = bound_outside
+
 member_of_bound : (x : ExecutionContext) (r : Reference) (key : Run (List ℕ)) → IsBound (member_of x r key)
 member_of_bound x ToImportMeta key = bound_bind key (λ k. meta_bound (bytes_eq k (codes "url")) _)
 member_of_bound x r key = bound_bind (read_object x r) (λ o. bound_bind key (λ k. bound_to (ToMember o k) (λ x. refl)))
 
 pub member_bound : (object key : Meaning) (x : ExecutionContext) → IsBound (member_reference object key x)
 member_bound object key x = bound_bind (object.reference x) (λ r. member_of_bound x r (key.key x))
+
+expected_bound : (v : Value) (r : Reference) → IsBound (expected v r)
+expected_bound v (ToMember (Own place) key) = bound_bind (found_from place key) (λ p. value_bound (is_data v p) v)
+expected_bound v _ = bound_outside
+
+known_bound : (reading : Reading) (e : Evaluation Reference) (x : ExecutionContext) → IsBound (e x) → IsBound (known_reference reading e x)
+known_bound Unknown e x h = h
+known_bound (Constant v) e x h = bound_to (ToValue v) (λ x. refl)
+known_bound (Expected v) e x h = bound_bind (catching (e x) (λ thrown. outside)) (λ r. expected_bound v r)
+
+pub read_bound : (n : Node) (object key : Meaning) (x : ExecutionContext) → IsBound (read_member n object key x)
+read_bound n object key x = known_bound (reading x.known.enums n) (member_reference object key) x (member_bound object key x)
 
 pub super_bound : (key : Meaning) (x : ExecutionContext) → IsBound (super_reference key x)
 super_bound key x =

@@ -163,6 +163,7 @@ module _ (texts : Texts) (free : ℕ) (onto : ℕ → ℕ) (tree : Node) (record
 
   pub meet : Meets to tree
   meet = record {
+    no_enums = records.no_enums;
     none_caught = fine.meets;
     in_module = in-module;
     free_texts = λ id none. stays-by id (texts (id.sym, id.ctxt)) refl (λ text g. true-false g.declared none);
@@ -181,6 +182,7 @@ final_texts_meet names free to tree are records told keeps stays exports =
 
 pub what_meets_may_meet : WhatMeetsMayMeet
 what_meets_may_meet to tree meets keys = record {
+  no_enums = meets.no_enums;
   stands = any;
   all_stand = stand tree;
   none_caught = meets.none_caught;

@@ -14,6 +14,7 @@ use Rattle.ecma_scope.specs.Scopes.{is_default, is_root, opens}
 use Rattle.ecma_hygiene.specs.Ids.{Scope, has_context, innermost, is_block, is_body_block, is_function_body, is_own}
 use Rattle.ecma_hygiene.specs.Sights.{own_scope}
 use Rattle.ecma_runs.specs.State.{Id, default_name}
+use Rattle.ecma_runs.specs.Enums.{lacks_enums}
 use Rattle.ecma_runs.specs.Environment.{except, ids_of, is_among}
 use Rattle.ecma_runs.specs.Meaning.{Meaning}
 use Rattle.ecma_runs.specs.Evaluation.{meaning}
@@ -100,7 +101,7 @@ pub record IsFormed (place : Place) : Type 0 where
   pub members : HasMembers (out-Node place.node).kind (out-Node place.node).children
   pub default : is_default place.around.role ≡ true → belongs sort.DefaultDecl (out-Node place.node).kind ≡ true
 
--- a module in which each scope for which the evaluator makes a record is that record; its own scope has at least its variables, but for that of a default export without a name,
+-- a module without enums in which each scope for which the evaluator makes a record is that record; its own scope has at least its variables, but for that of a default export without a name,
 -- and at most what it declares (what stands where declarators do and is none has names that are declared nowhere)
 pub record RecordsAreScopes (tree : Node) : Type 0 where
   pub whole : belongs sort.Module (out-Node tree).kind ≡ true
@@ -108,3 +109,4 @@ pub record RecordsAreScopes (tree : Node) : Type 0 where
   pub declared : (id : Id) → declares_id (own_scope role.Root [] tree) id ≡ true → is_among id (meaning tree).declared ≡ true
   pub formed : All IsFormed (places tree)
   pub records : All IsRecord (places tree)
+  pub no_enums : lacks_enums tree ≡ true

@@ -34,6 +34,7 @@ use Rattle.ecma_hygiene_runs.specs.OuterNames.{exports_import_by, has_no_exporte
 use Rattle.ecma_hygiene_runs.specs.Plain.{has_no_receiver, is_plain, is_plain_kind, plain_by, plain_step}
 use Rattle.ecma_hygiene_runs.proofs.Covering.{Covered, Sub, cover, declared, is_last, layer, layer-covered, names, sub-join, sub-left, sub-none, sub-right, sub-same}
 use Rattle.ecma_hygiene_runs.proofs.Last.{calm, inner-children, is_inner, last, lasts, layer_whole}
+use Rattle.ecma_hygiene_runs.proofs.PlainEnums.{plain-lacks}
 use Rattle.ecma_hygiene_runs.proofs.Seeking.{any_name, inner-name, may_name, soughts-name}
 use Rattle.ecma_hygiene_runs.proofs.Sorted.{sorted_names_are_outer}
 use Rattle.ecma_hygiene_runs.proofs.SortedNames.{shape_out}
@@ -60,6 +61,8 @@ layer-sub n kind.TsTypeAnn cs shape named j f h = absurd (cc)
 layer-sub n kind.TsTypeParamDecl cs shape named j f h = absurd (cc)
 layer-sub n kind.TsTypeParamInstantiation cs shape named j f h = absurd (cc)
 layer-sub n (kind.TsImportEqualsDecl x y) cs shape named j f h = absurd (cc)
+layer-sub n (kind.TsEnumDecl x y) cs shape named j f h = absurd (cc)
+layer-sub n kind.TsEnumMember cs shape named j f h = absurd (cc)
 layer-sub n kind.TsQualifiedName (left ∷ right ∷ []) shape named j f h = sub-same (layer kind.TsQualifiedName (left ∷ right ∷ []) named) _ refl
 layer-sub n k cs shape named j f h =
     sub-same (layer k cs named) _ (ap (λ b. (cond b (no_effect n) (role_by n k (map meaning cs))).declared ++ cond named (cond b (no_effect n) (role_by n k (map meaning cs))).names []) (sym f))
@@ -242,6 +245,7 @@ pub plain_modules_are_resolved : PlainModulesAreResolved
 plain_modules_are_resolved tree h p o others =
     let sorted = sorted_names_are_outer tree h o (unexported tree p) in
     record {
+      no_enums = plain-lacks tree p;
       named = sorted.named;
       keys = sorted.keys;
       bindings = λ id bound. (let other = others id bound in record { inner = other.0; declared = bindings_are_declared tree h p id bound; apart = other.1 });

@@ -1,5 +1,5 @@
 -- A resolved tree with its final texts runs as it does with its own.
-use Rattle.std.proofs.Common.{◌≡◌, refl, sym, ap, ◌∙◌, subst, ℕ, ◌==◌, List, [], ◌∷◌, map, Option, Some, None, Bool, true, false, ◌||◌, bytes_eq, codes, unwrap_or}
+use Rattle.std.proofs.Common.{◌≡◌, refl, sym, ap, ◌∙◌, subst, ℕ, ◌==◌, List, [], ◌∷◌, Option, Some, None, Bool, true, false, ◌||◌, bytes_eq, codes, unwrap_or}
 use Rattle.std.specs.List.{All}
 use Rattle.std.proofs.lemmas.Bool.{eqb-true}
 use Rattle.std.proofs.lemmas.List.Elements.{All-cons, All-head, All-nil, All-tail}
@@ -27,12 +27,12 @@ use Rattle.ecma_runs.specs.declared.script.Script.{Script}
 use Rattle.ecma_runs.specs.State.{Id, default_name}
 use Rattle.ecma_runs.specs.Environment.{is_among}
 use Rattle.ecma_runs.specs.Evaluation.{meaning}
-use Rattle.ecma_runs.specs.Observation.{known_of, exports_in, observe}
+use Rattle.ecma_runs.specs.Observation.{exports_in, observe}
 use Rattle.ecma_runs.specs.Exports.{export_names}
 use Rattle.ecma_runs.specs.Names.{TextsStay, renamed}
-use Rattle.ecma_runs.proofs.Kept.{kept}
+use Rattle.ecma_runs.proofs.EnumTrees.{Lacks}
 use Rattle.ecma_runs.proofs.Standing.{Passes}
-use Rattle.ecma_runs.proofs.Layers.{KeepsLayers, images, layers_alike, observe_kept, same_exports, same_ids, the_same}
+use Rattle.ecma_runs.proofs.Layers.{KeepsLayers, observe_lacking, same_exports, same_ids}
 use Rattle.ecma_hygiene_runs.specs.Exports.{KeepsExportedTexts}
 use Rattle.ecma_hygiene_runs.specs.ExportsApart.{exports_apart}
 use Rattle.ecma_hygiene_runs.specs.FinalTexts.{final_id}
@@ -43,7 +43,9 @@ use Rattle.ecma_hygiene_runs.specs.WrittenOut.{written_out}
 use Rattle.ecma_hygiene_runs.proofs.Apart.{apart-passes, apart_layers, renamed-apart}
 use Rattle.ecma_hygiene_runs.proofs.FinalTree.{turned-everywhere}
 use Rattle.ecma_hygiene_runs.proofs.GivenTexts.{IsGiven, given-text}
+use Rattle.ecma_hygiene_runs.proofs.KeptParts.{parts-kept}
 use Rattle.ecma_hygiene_runs.proofs.KeysShown.{shown}
+use Rattle.ecma_hygiene_runs.proofs.LackingEnums.{apart-lacks, final-lacks, out-lacks, renamed-lacks}
 use Rattle.ecma_hygiene_runs.proofs.Passing.{out-passes, seen-passes}
 use Rattle.ecma_hygiene_runs.proofs.Renaming.{Renames, renamed_kept}
 use Rattle.ecma_hygiene_runs.proofs.WritingOut.{written_out_layers, written_out_shorthands_do_not_matter}
@@ -51,11 +53,11 @@ use Rattle.ecma_hygiene_runs.proofs.WritingOut.{written_out_layers, written_out_
 -- a map of trees that keeps the meaning of each layer keeps the ids that a tree declares
 
 declared-kept : (f : Node → Node) → KeepsLayers f → (n : Node) → (meaning (f n)).declared ≡ (meaning n).declared
-declared-kept f layers n = (kept (images f (known_of n) the_same) (layers_alike f (known_of n) the_same layers) n tt).declared ∙ same_ids (meaning n).declared
+declared-kept f layers n = (parts-kept f layers n).declared ∙ same_ids (meaning n).declared
 
 -- and what it exports
 exports-kept : (f : Node → Node) → KeepsLayers f → (n : Node) → exports_in (f n) ≡ exports_in n
-exports-kept f layers n = (kept (images f (known_of n) the_same) (layers_alike f (known_of n) the_same layers) n tt).exports None ∙ same_exports (exports_in n)
+exports-kept f layers n = (parts-kept f layers n).exports None ∙ same_exports (exports_in n)
 
 -- so it is with shorthands written out, and what is exported apart
 
@@ -173,6 +175,7 @@ module _ (onto : ℕ → ℕ) (tree : Node) (names : List Named) (are : Hygienic
 
   renames : Renames to (shown tree)
   renames = record {
+    no_enums = apart-lacks (written_out tree) (out-lacks tree is.no_enums);
     stands = stands;
     all_stand = all-stand;
     one_to_one = λ a b sa sb e. one-by a b sa sb e (same_id (a.sym, a.ctxt) (b.sym, b.ctxt)) refl;
@@ -185,13 +188,14 @@ module _ (onto : ℕ → ℕ) (tree : Node) (names : List Named) (are : Hygienic
 
   pub final_runs : (turns : ℕ) (options : Config) (script : Script) → observe turns options (with_contexts (λ text ctxt. onto ctxt) (hygiene.renamed texts tree)) script ≡ observe turns options tree script
   final_runs turns options script =
-      sym (written_out_shorthands_do_not_matter turns options (with_contexts (λ text ctxt. onto ctxt) (hygiene.renamed texts tree)) script)
+      let out : Lacks (written_out tree) = out-lacks tree is.no_enums in
+      sym (written_out_shorthands_do_not_matter turns options (with_contexts (λ text ctxt. onto ctxt) (hygiene.renamed texts tree)) script (final-lacks onto texts keeps.none tree is.no_enums))
       ∙ ap (λ n. observe turns options n script) (turned-everywhere onto texts keeps.none empty tree role.Root spot.Elsewhere is.named)
-      ∙ sym (observe_kept exports_apart apart_layers turns options (renamed to (written_out tree)) script)
+      ∙ sym (observe_lacking exports_apart apart_layers apart-lacks turns options (renamed to (written_out tree)) script (renamed-lacks to (written_out tree) out))
       ∙ ap (λ n. observe turns options n script) (sym (renamed-apart to (written_out tree)))
-      ∙ renamed_kept to (shown tree) renames turns options script
-      ∙ observe_kept exports_apart apart_layers turns options (written_out tree) script
-      ∙ written_out_shorthands_do_not_matter turns options tree script
+      ∙ renamed_kept to options (shown tree) renames turns script
+      ∙ observe_lacking exports_apart apart_layers apart-lacks turns options (written_out tree) script out
+      ∙ written_out_shorthands_do_not_matter turns options tree script is.no_enums
 
 -- the tree with its own contexts
 

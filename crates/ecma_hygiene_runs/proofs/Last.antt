@@ -1,7 +1,6 @@
 -- What is done behind all items of a module is declared in these alone: in a sorted tree no other node has any.
-use Rattle.std.proofs.Common.{◌≡◌, refl, ap, ◌∙◌, subst, ℕ, zero, suc, List, [], ◌∷◌, ◌++◌, map, length, replicate, Bool, true, false, cond, not, ◌&&◌}
+use Rattle.std.proofs.Common.{◌≡◌, refl, ap, ◌∙◌, subst, ℕ, zero, suc, List, [], ◌∷◌, ◌++◌, map, length, replicate, Bool, true, false, cond, not}
 use Rattle.std.specs.List.{list_all}
-use Rattle.ecma_kind.specs.Sorts.{belongs}
 use Rattle.ecma_kind.specs.declared.kind.Kind.{Kind}
 use Rattle.ecma_kind.specs.declared.kind.Kind.TheVariants as kind
 use Rattle.ecma_kind.specs.declared.shapes.Count.{Count}
@@ -132,6 +131,8 @@ calm-by n kind.TsTypeParamInstantiation ns shape low a h = refl
 calm-by n kind.TsQualifiedName (left ∷ right ∷ []) shape low a h = refl
 calm-by n (kind.TsImportEqualsDecl false false) (name ∷ source ∷ []) shape low a h = refl
 calm-by n (kind.TsImportEqualsDecl true false) (name ∷ source ∷ []) shape low a h = none-last (meaning source.0).is_required _ _ refl refl
+calm-by n (kind.TsEnumDecl false is_const) (name ∷ members ∷ []) shape low a h = refl
+calm-by n kind.TsEnumMember (name ∷ init ∷ []) shape low a h = refl
 calm-by n k ns shape low a h = let ms : List Meaning = map meaning (nodes ns) in none-last (has_no_effect k ms) (no_effect n) (role_by n k ms) refl refl
 
 pub calm : (n : Node) → Calm n

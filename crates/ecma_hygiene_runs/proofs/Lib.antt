@@ -1,5 +1,8 @@
-pub mod WritingOut
 pub mod Parts
+pub mod LackingEnums
+pub mod PlainEnums
+pub mod KeptParts
+pub mod WritingOut
 mod FinalParts
 pub mod FinalTree
 pub mod Renaming

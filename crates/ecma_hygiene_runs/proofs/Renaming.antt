@@ -1,5 +1,5 @@
 -- A map of names that is one to one keeps runs, where an import with both names has its text from the second.
-use Rattle.std.proofs.Common.{◌≡◌, ℕ, ◌++◌, refl, sym, ap, ap₂, ◌∙◌, subst, List, [], ◌∷◌, map, None, Bool, true, false, cond, add-zero, bytes_eq, codes}
+use Rattle.std.proofs.Common.{◌≡◌, ℕ, ◌++◌, refl, sym, ap, ap₂, ◌∙◌, subst, List, [], ◌∷◌, map, None, Bool, true, false, not, cond, add-zero, bytes_eq, codes}
 use Rattle.ecma_kind.specs.declared.kind.Kind.{Kind}
 use Rattle.ecma_kind.specs.declared.kind.Kind.TheVariants as kind
 use Rattle.ecma_tree.specs.declared.node.Node.{Node, Node-F, fold-roll-Node, ind-Node, out-Node, roll-Node}
@@ -8,6 +8,7 @@ use Rattle.ecma_config.specs.declared.config.Config.{Config}
 use Rattle.ecma_runs.specs.declared.script.Script.{Script}
 use Rattle.ecma_runs.specs.State.{Id, default_name, Binding}
 use Rattle.ecma_runs.specs.Run.{outside}
+use Rattle.ecma_runs.specs.Enums.{is_enum, lacks_enums}
 use Rattle.ecma_runs.specs.Environment.{ids_of, have_one_of, is_among}
 use Rattle.ecma_runs.specs.Meaning.{Meaning}
 use Rattle.ecma_runs.specs.Declarations.{all_shorthands, has_no_effect, imported_as}
@@ -23,8 +24,10 @@ use Rattle.ecma_runs.proofs.Meanings.{at, Same, any_seeking, pair}
 use Rattle.ecma_runs.proofs.Premises.{renamed_kind, StillClash, KeptLayer}
 use Rattle.ecma_runs.proofs.Steps.{plain_step}
 use Rattle.ecma_runs.proofs.Kept.{AllNodes, Kept, StepsAlike, layer_same, observe_unless}
-use Rattle.ecma_runs.proofs.Layers.{the_same, images_named, none_excused}
+use Rattle.ecma_runs.proofs.EnumTrees.{Lacks, lacks_parts, lacking_enums}
+use Rattle.ecma_runs.proofs.Layers.{the_same, without_enums, images_named, none_excused}
 use Rattle.ecma_runs.proofs.Standing.{Passes, passes_parts, BindingsPass, declares}
+use Rattle.ecma_hygiene_runs.proofs.LackingEnums.{renamed-none}
 use Rattle.ecma_hygiene_runs.specs.KeyNames.{KeyNames, is_name_by, at_names, key_names_by, key_names, key_names_in}
 
 -- the identifiers that a meaning lists are those of the node
@@ -61,6 +64,8 @@ here_layer n kind.TsTypeParamInstantiation ns = refl
 here_layer n kind.TsQualifiedName (left ∷ right ∷ []) = refl
 here_layer n (kind.TsImportEqualsDecl false false) (name ∷ source ∷ []) = refl
 here_layer n (kind.TsImportEqualsDecl true false) (name ∷ source ∷ []) = none_listed (meaning source.0).is_required _ _ refl refl
+here_layer n (kind.TsEnumDecl false is_const) (name ∷ members ∷ []) = refl
+here_layer n kind.TsEnumMember (name ∷ init ∷ []) = refl
 here_layer n k ns = none_listed (has_no_effect k (map meaning (map (λ e. e.0) ns))) (no_effect n) (role_by n k (map meaning (map (λ e. e.0) ns))) refl refl
 
 here_is : (n : Node) → Listed n
@@ -115,6 +120,7 @@ mute_same : (c : Change) (m m' : Meaning) → Same c m m' → Same c (mute m) (m
 mute_same c m m' same = record {
   value = same.value;
   reference = same.reference;
+  written = same.written;
   assigned = same.assigned;
   initial = same.initial;
   arguments = same.arguments;
@@ -128,6 +134,7 @@ mute_same c m m' same = record {
   targets = same.targets;
   parameters = same.parameters;
   completion = same.completion;
+  member = same.member;
   varied = same.varied;
   hoisted = same.hoisted;
   last = same.last;
@@ -153,6 +160,7 @@ mute_same c m m' same = record {
   declared = same.declared;
   last_declared = same.last_declared;
   imported = same.imported;
+  member_texts = same.member_texts;
   exports = same.exports;
   text = λ texts. refl;
   cooked = same.cooked;
@@ -172,9 +180,10 @@ all_kept : (c : Change) → c.names.plain ≡ true → (ns : List ((n : Node) ×
 all_kept c plain [] fine = tt
 all_kept c plain (n ∷ ns) fine = (any_seeking c plain (n.1 fine.0), all_kept c plain ns fine.1)
 
--- a map of names that is one to one on a set of names in which each identifier of the tree stands; it keeps the texts of keys and of names that the
+-- of a tree without enums, a map of names that is one to one on a set of names in which each identifier of the tree stands; it keeps the texts of keys and of names that the
 -- tree declares nowhere, and which names are `this`; what is exported under its own name keeps its text, and the variable of a default export its name
 pub record Renames (to : Id → Id) (m : Node) : Type 0 where
+  pub no_enums : lacks_enums m ≡ true
   pub stands : Id → Bool
   pub all_stand : ids_pass stands m ≡ true
   pub one_to_one : (a b : Id) → stands a ≡ true → stands b ≡ true → to a ≡ to b → a ≡ b
@@ -184,16 +193,21 @@ pub record Renames (to : Id → Id) (m : Node) : Type 0 where
   pub default_stays : (stands default_name ≡ true) × (to default_name ≡ default_name)
   pub export_texts : TextsStay to (export_names (exports_in m))
 
-module _ (to : Id → Id) (m : Node) (renaming : Renames to m) where
+module _ (to : Id → Id) (options : Config) (m : Node) (renaming : Renames to m) where
+  abbrev Fine : Node → Type 0
+  Fine n = Passes renaming.stands n × TextsStay to (key_names_in n) × Lacks n
+
   abbrev new_names : Naming
   new_names = record { to = to; kept = renaming.stands; plain = true; injective = λ is. renaming.one_to_one }
 
   abbrev change : Change
-  change = images_named (λ n. Passes renaming.stands n × TextsStay to (key_names_in n)) (renamed to) new_names (known_of m) renaming.free_texts the_same
+  change =
+      images_named Fine (renamed to) new_names (known_of options m) renaming.free_texts the_same
+      (without_enums Fine (renamed to) new_names true None (known_of options m).enums options.ts_enum_is_mutable (lacking_enums options m renaming.no_enums))
 
-  both_all : (cs : List Node) → AllNodes (Passes renaming.stands) cs → AllNodes (λ n. TextsStay to (key_names_in n)) cs → AllNodes change.fine cs
-  both_all [] p q = tt
-  both_all (n ∷ cs) p q = ((p.0, q.0), both_all cs p.1 q.1)
+  three_all : (cs : List Node) → AllNodes (Passes renaming.stands) cs → AllNodes (λ n. TextsStay to (key_names_in n)) cs → AllNodes Lacks cs → AllNodes change.fine cs
+  three_all [] p q r = tt
+  three_all (n ∷ cs) p q r = ((p.0, q.0, r.0), three_all cs p.1 q.1 r.1)
 
   kind_renamed : (k : Kind) → renamed_kind change k ≡ renamed_ident to k
   kind_renamed (kind.Ident text ctxt optional) = refl
@@ -223,34 +237,35 @@ module _ (to : Id → Id) (m : Node) (renaming : Renames to m) where
   IsOther (kind.ImportNamedSpecifier is_type_only) (local ∷ name ∷ []) = (key_names name).is_name ≡ false
   IsOther k cs = Unit {0}
 
-  layer_kept : (k : Kind) (cs : List Node) → IsOther k cs → passes_by renaming.stands k ≡ true → AllNodes (Passes renaming.stands) cs → TextsStay to (at_names k (map key_names cs)) → KeptLayer change k (map meaning cs)
-  layer_kept (kind.Ident text ctxt optional) cs o h p t = (h, renaming.this_stays (record { sym = text; ctxt = ctxt }) h)
-  layer_kept kind.ExportDefaultExpr cs o h p t = renaming.default_stays
-  layer_kept kind.FnExpr cs o h p t = renaming.default_stays
-  layer_kept kind.ClassExpr cs o h p t = renaming.default_stays
-  layer_kept (kind.NamedExport type_only) (specifiers ∷ source ∷ attributes ∷ []) o h p t = listed source t
-  layer_kept (kind.ExportNamedSpecifier is_type_only) (exported ∷ name ∷ []) o h p t = (listed exported (stay_first to (keys_of exported).here (keys_of name).here t), listed name (stay_rest to (keys_of exported).here (keys_of name).here t))
-  layer_kept kind.ExportNamespaceSpecifier (name ∷ []) o h p t = listed name t
-  layer_kept kind.MemberExpr cs o h p t = refl
-  layer_kept kind.SuperPropExpr cs o h p t = refl
-  layer_kept kind.TsQualifiedName cs o h p t = refl
-  layer_kept kind.CallExpr cs o h p t = refl
-  layer_kept kind.OptCall cs o h p t = refl
-  layer_kept kind.NewExpr cs o h p t = refl
-  layer_kept kind.TsExternalModuleRef cs o h p t = refl
-  layer_kept kind.TsExportAssignment cs o h p t = refl
-  layer_kept (kind.TsImportEqualsDecl true false) (name ∷ source ∷ []) o h p t = (λ required. refl, listed name t)
-  layer_kept kind.KeyValuePatProp cs o h p t = refl
-  layer_kept kind.AssignPatProp (name ∷ default ∷ []) o h p t = (refl, listed name t)
-  layer_kept kind.ObjectLit (properties ∷ []) o h p t = listed properties t
-  layer_kept (kind.Class is_abstract) (super ∷ body ∷ types ∷ super_types ∷ implements ∷ []) o h p t = listed body t
-  layer_kept (kind.ImportDecl type_only) (specifiers ∷ source ∷ attributes ∷ []) o h p t = listed source t
-  layer_kept (kind.ImportNamedSpecifier is_type_only) (local ∷ name ∷ []) o h p t = import_kept local name (key_names name).is_name refl o t
-  layer_kept (kind.Function false false) (parameters ∷ body ∷ types ∷ return_type ∷ []) o h p t = still parameters body p.1.0
-  layer_kept (kind.ArrowExpr false false) (parameters ∷ body ∷ types ∷ return_type ∷ []) o h p t = still parameters body p.1.0
-  layer_kept kind.SetterProp (key ∷ this_parameter ∷ parameter ∷ body ∷ []) o h p t = still parameter body p.1.1.1.0
-  layer_kept (kind.Constructor accessibility is_optional) (key ∷ parameters ∷ body ∷ []) o h p t = still parameters body p.1.1.0
-  layer_kept _ cs o h p t = tt
+  layer_kept : (k : Kind) (cs : List Node) → IsOther k cs → passes_by renaming.stands k ≡ true → AllNodes (Passes renaming.stands) cs → TextsStay to (at_names k (map key_names cs)) → not (is_enum k) ≡ true → KeptLayer change k (map meaning cs)
+  layer_kept (kind.Ident text ctxt optional) cs o h p t e = (h, renaming.this_stays (record { sym = text; ctxt = ctxt }) h)
+  layer_kept kind.ExportDefaultExpr cs o h p t e = renaming.default_stays
+  layer_kept kind.FnExpr cs o h p t e = renaming.default_stays
+  layer_kept kind.ClassExpr cs o h p t e = renaming.default_stays
+  layer_kept (kind.NamedExport type_only) (specifiers ∷ source ∷ attributes ∷ []) o h p t e = listed source t
+  layer_kept (kind.ExportNamedSpecifier is_type_only) (exported ∷ name ∷ []) o h p t e = (listed exported (stay_first to (keys_of exported).here (keys_of name).here t), listed name (stay_rest to (keys_of exported).here (keys_of name).here t))
+  layer_kept kind.ExportNamespaceSpecifier (name ∷ []) o h p t e = listed name t
+  layer_kept kind.MemberExpr cs o h p t e = refl
+  layer_kept kind.SuperPropExpr cs o h p t e = refl
+  layer_kept kind.TsQualifiedName cs o h p t e = refl
+  layer_kept kind.CallExpr cs o h p t e = refl
+  layer_kept kind.OptCall cs o h p t e = refl
+  layer_kept kind.NewExpr cs o h p t e = refl
+  layer_kept kind.TsExternalModuleRef cs o h p t e = refl
+  layer_kept kind.TsExportAssignment cs o h p t e = refl
+  layer_kept (kind.TsImportEqualsDecl true false) (name ∷ source ∷ []) o h p t e = (λ required. refl, listed name t)
+  layer_kept kind.KeyValuePatProp cs o h p t e = refl
+  layer_kept kind.AssignPatProp (name ∷ default ∷ []) o h p t e = (refl, listed name t)
+  layer_kept kind.ObjectLit (properties ∷ []) o h p t e = listed properties t
+  layer_kept (kind.Class is_abstract) (super ∷ body ∷ types ∷ super_types ∷ implements ∷ []) o h p t e = listed body t
+  layer_kept (kind.ImportDecl type_only) (specifiers ∷ source ∷ attributes ∷ []) o h p t e = listed source t
+  layer_kept (kind.ImportNamedSpecifier is_type_only) (local ∷ name ∷ []) o h p t e = import_kept local name (key_names name).is_name refl o t
+  layer_kept (kind.Function false false) (parameters ∷ body ∷ types ∷ return_type ∷ []) o h p t e = still parameters body p.1.0
+  layer_kept (kind.ArrowExpr false false) (parameters ∷ body ∷ types ∷ return_type ∷ []) o h p t e = still parameters body p.1.0
+  layer_kept kind.SetterProp (key ∷ this_parameter ∷ parameter ∷ body ∷ []) o h p t e = still parameter body p.1.1.1.0
+  layer_kept (kind.Constructor accessibility is_optional) (key ∷ parameters ∷ body ∷ []) o h p t e = still parameters body p.1.1.0
+  layer_kept (kind.TsEnumDecl false is_const) cs o h p t e = absurd (cc)
+  layer_kept _ cs o h p t e = tt
 
   renamed_layer : (x : Node-F Node) → meaning (renamed to (roll-Node x)) ≡ meaning_by (renamed to (roll-Node x)) (renamed_kind change x.kind) (map meaning (map (renamed to) x.children))
   renamed_layer x =
@@ -290,13 +305,14 @@ module _ (to : Id → Id) (m : Node) (renaming : Renames to m) where
       let below = all_below (map (λ part. part.keys) (map key_names x.children)) in
       let t = passes_parts renaming.stands x fine.0 in
       let z : TextsStay to (own ++ below) = subst (λ z. TextsStay to z.keys.all) (fold-roll-Node KeyNames key_names_by x) fine.1 in
-      let all = both_all x.children t.1 (stay_below to x.children (stay_rest to own below z)) in
+      let r = lacks_parts x fine.2 in
+      let all = three_all x.children t.1 (stay_below to x.children (stay_rest to own below z)) r.1 in
       let first = stay_first to own below z in
-      steps_by x ns is fine all x.kind x.children refl refl first (λ other. layer_same change x ns is fine all (layer_kept x.kind x.children other t.0 t.1 first) tt (renamed_layer x))
+      steps_by x ns is fine all x.kind x.children refl refl first (λ other. layer_same change x ns is fine all (layer_kept x.kind x.children other t.0 t.1 first r.0) tt (renamed_layer x))
 
-  pub renamed_kept : (turns : ℕ) (options : Config) (script : Script) → observe turns options (renamed to m) script ≡ observe turns options m script
-  renamed_kept turns options script =
+  pub renamed_kept : (turns : ℕ) (script : Script) → observe turns options (renamed to m) script ≡ observe turns options m script
+  renamed_kept turns script =
       ap (λ n. observe n options (renamed to m) script) (sym (add-zero turns))
-      ∙ observe_unless change refl renaming_steps refl refl turns options m script (renaming.all_stand, renaming.key_texts) refl
+      ∙ observe_unless change refl renaming_steps refl refl turns options m script (renaming.all_stand, renaming.key_texts, renaming.no_enums) refl (renamed-none to options m renaming.no_enums)
       (tt, record { free = tt }, tt, keeps_plain new_names refl (ids_of (meaning m).locals) (exports_in m) ((declares renaming.stands m renaming.all_stand).exports None renaming.default_stays.0) renaming.export_texts)
       tt tt (none_excused _)

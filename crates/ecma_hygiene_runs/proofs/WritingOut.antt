@@ -21,10 +21,11 @@ use Rattle.ecma_runs.specs.Declarations.{all_declared, exported_from}
 use Rattle.ecma_runs.specs.Evaluation.{meaning_by, meaning}
 use Rattle.ecma_runs.specs.Observation.{observe}
 use Rattle.ecma_runs.proofs.Layer.{meaning-roll, meaning_out}
-use Rattle.ecma_runs.proofs.Layers.{observe_kept, rewritten_layers, KeepsLayers}
+use Rattle.ecma_runs.proofs.Layers.{observe_lacking, rewritten_layers, KeepsLayers}
 use Rattle.ecma_hygiene.specs.Renamed.{kind_is_absent, proto, proto_in_brackets, proto_literal, with_default}
 use Rattle.ecma_hygiene_runs.specs.WrittenOut.{key_node, name_node, property_by, property_key_node, property_out, properties_by, properties_out, other_by, other_out, leaf_text, identifier_by, pattern_with, pattern_by, out_by, out_here, written_out}
 use Rattle.ecma_hygiene_runs.specs.Laws.{ShorthandsDoNotMatter, WrittenOutShorthandsDoNotMatter}
+use Rattle.ecma_hygiene_runs.proofs.LackingEnums.{out-lacks}
 
 -- runs one after the other
 
@@ -306,8 +307,8 @@ pub written_out_layers : KeepsLayers written_out
 written_out_layers = rewritten_layers out_here (λ x. layer_kept x x.kind x.children refl refl)
 
 pub written_out_shorthands_do_not_matter : WrittenOutShorthandsDoNotMatter
-written_out_shorthands_do_not_matter = observe_kept written_out written_out_layers
+written_out_shorthands_do_not_matter = observe_lacking written_out written_out_layers out-lacks
 
 pub shorthands_do_not_matter : ShorthandsDoNotMatter
-shorthands_do_not_matter turns options m m' script agree =
-    sym (written_out_shorthands_do_not_matter turns options m script) ∙ (ap (λ z. observe turns options z script) agree ∙ written_out_shorthands_do_not_matter turns options m' script)
+shorthands_do_not_matter turns options m m' script lacks lacks' agree =
+    sym (written_out_shorthands_do_not_matter turns options m script lacks) ∙ (ap (λ z. observe turns options z script) agree ∙ written_out_shorthands_do_not_matter turns options m' script lacks')

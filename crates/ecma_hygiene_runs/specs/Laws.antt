@@ -12,6 +12,7 @@ use Rattle.ecma_hygiene.specs.Texts.{HygienicTexts, is_bound, text_in}
 use Rattle.ecma_hygiene_scopes.specs.Stops.{IsRight, stops}
 use Rattle.ecma_config.specs.declared.config.Config.{Config}
 use Rattle.ecma_runs.specs.declared.script.Script.{Script}
+use Rattle.ecma_runs.specs.Enums.{lacks_enums}
 use Rattle.ecma_runs.specs.Environment.{is_among}
 use Rattle.ecma_runs.specs.Evaluation.{meaning}
 use Rattle.ecma_runs.specs.Observation.{observe}
@@ -39,13 +40,15 @@ PlainModulesAreResolved =
     (tree : Node) → HasSort sort.Module tree → is_plain tree ≡ true → has_outer_names tree ≡ true
     → ((id : Id) → is_bound (sights tree) id ≡ true → (id.1 ≢ 0) × (bytes_eq id.0 (codes "this") ≡ false)) → IsResolved tree
 
--- trees that are equal with their shorthands written out run alike
+-- trees without enums that are equal with their shorthands written out run alike
 abbrev pub ShorthandsDoNotMatter : Type 0
-ShorthandsDoNotMatter = (turns : ℕ) (options : Config) (m m' : Node) (script : Script) → written_out m ≡ written_out m' → observe turns options m script ≡ observe turns options m' script
+ShorthandsDoNotMatter =
+    (turns : ℕ) (options : Config) (m m' : Node) (script : Script) → lacks_enums m ≡ true → lacks_enums m' ≡ true → written_out m ≡ written_out m'
+    → observe turns options m script ≡ observe turns options m' script
 
--- a tree runs as it does with its shorthands written out
+-- a tree without enums runs as it does with its shorthands written out
 abbrev pub WrittenOutShorthandsDoNotMatter : Type 0
-WrittenOutShorthandsDoNotMatter = (turns : ℕ) (options : Config) (m : Node) (script : Script) → observe turns options (written_out m) script ≡ observe turns options m script
+WrittenOutShorthandsDoNotMatter = (turns : ℕ) (options : Config) (m : Node) (script : Script) → lacks_enums m ≡ true → observe turns options (written_out m) script ≡ observe turns options m script
 
 -- a resolved tree with its final texts, among which declarations that are exported keep theirs, runs as it does with its own
 abbrev pub FinalTextsKeepRuns : Type 0

@@ -6,6 +6,7 @@ use Rattle.ecma_hygiene.specs.Ids.{Id}
 use Rattle.ecma_hygiene.specs.Laws.{is_seen}
 use Rattle.ecma_hygiene.specs.Sights.{sights}
 use Rattle.ecma_hygiene.specs.Texts.{is_bound}
+use Rattle.ecma_runs.specs.Enums.{lacks_enums}
 use Rattle.ecma_runs.specs.Environment.{is_among}
 use Rattle.ecma_runs.specs.Evaluation.{meaning}
 use Rattle.ecma_hygiene_runs.specs.ExportsApart.{exports_apart}
@@ -19,9 +20,10 @@ pub record IsBinding (tree : Node) (id : Id) : Type 0 where
   pub declared : is_among (record { sym = id.0; ctxt = id.1 }) (meaning tree).declared ≡ true
   pub apart : bytes_eq id.0 (codes "this") ≡ false
 
--- a resolved tree: what is no name of a variable has the empty context, names that are keys beside shorthands and variables that are exported too, and
+-- a resolved tree has no enums: what is no name of a variable has the empty context, names that are keys beside shorthands and variables that are exported too, and
 -- bindings are bindings where the module runs
 pub record IsResolved (tree : Node) : Type 0 where
+  pub no_enums : lacks_enums tree ≡ true
   pub named : is_named tree ≡ true
   pub keys : All (λ id. id.ctxt ≡ 0) (key_names_in (exports_apart (written_out tree)))
   pub bindings : (id : Id) → is_bound (sights tree) id ≡ true → IsBinding tree id

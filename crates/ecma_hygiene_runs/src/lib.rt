@@ -6,13 +6,13 @@
 
 ghost use Rattle.ecma_hygiene_runs.specs.Laws.{BindingsAreDeclared, FinalTextsKeepRuns, PlainModulesAreResolved, ReadingAgainKeepsRuns, ShorthandsDoNotMatter, SortedNamesAreOuter, WrittenOutShorthandsDoNotMatter};
 
-/// A module with its shorthands written out is observed to do what it does with them, for every tree, every script of the host and every number of
-/// turns.
+/// A module without enums is observed to do with its shorthands written out what it does with them, for every such tree, every script of the host and every
+/// number of turns.
 pub fn written_out_shorthands_do_not_matter()
     ensures { WrittenOutShorthandsDoNotMatter }
 {}
 
-/// So trees that are equal with their shorthands written out run alike, whichever of them each writes out.
+/// So such trees that are equal with their shorthands written out run alike, whichever of them each writes out.
 pub fn shorthands_do_not_matter()
     ensures { ShorthandsDoNotMatter }
 {}

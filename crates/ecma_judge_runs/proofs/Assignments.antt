@@ -24,7 +24,8 @@ use Rattle.ecma_runs.specs.Meaning.{ExecutionContext, Meaning}
 use Rattle.ecma_runs.specs.Operators.{both, total, number_from}
 use Rattle.ecma_runs.specs.Functions.{read, write}
 use Rattle.ecma_runs.specs.Patterns.{assigned_of}
-use Rattle.ecma_runs.specs.Expressions.{reference_of, assign}
+use Rattle.ecma_runs.specs.Expressions.{written_of, assign}
+use Rattle.ecma_judge_runs.proofs.Lone.{lone}
 use Rattle.ecma_judge_runs.specs.Known.{IsAsJudged, Marks, is_assignable_by}
 use Rattle.ecma_judge_runs.proofs.Giving.{GivesBy, CameFrom, of_came, bind_gives, then_gives, any_gives, weaker_gives, give_gives, mapped_gives}
 use Rattle.ecma_judge_runs.proofs.Literals.{Fits}
@@ -34,25 +35,27 @@ use Rattle.ecma_judge_runs.proofs.Sums.{typed_sum}
 pub assigned_passes : (x : ExecutionContext) (n : Node) (k : Kind) (ms : List Meaning) (cs : List Marks) → is_assignable_by k cs ≡ true → (P : Value → Type 0) (get : Run Value) → GivesBy P get → GivesBy P (assigned_of n k ms get x)
 assigned_passes x n (kind.ObjectPat optional) (properties ∷ type ∷ []) cs is P get h = bind_gives h (λ v p. then_gives (when (is_nullish v) type_error (properties.targets v x)) (λ _. give_gives v p))
 assigned_passes x n kind.AssignPat ms cs is P get h = absurd (cc)
-assigned_passes x n k ms cs is P get h = then_gives (reference_of n k ms x) (λ r. bind_gives h (λ v p. then_gives (write x r v) (λ _. give_gives v p)))
+assigned_passes x n k ms cs is P get h = then_gives (written_of n k ms x) (λ r. bind_gives h (λ v p. then_gives (write x r v) (λ _. give_gives v p)))
 
-module _ (ctx : ExprCtx) (own : Purity) (n : Node) (x : ExecutionContext) (j l : Judged) (target right : Meaning) (hr : GivesBy (IsAsJudged l) (right.value x))
-    (ht : (get : Run Value) → GivesBy (CameFrom get) (target.assigned get x)) where
+module _ (ctx : ExprCtx) (own : Purity) (n : Node) (x : ExecutionContext) (j l : Judged) (target right : Meaning) (hr : GivesBy (IsAsJudged l) (right.value (lone x)))
+    (ht : (get : Run Value) → GivesBy (CameFrom get) (target.assigned get (lone x))) where
   abbrev pub FitsAssigned : AssignOp → Value → Type 0
   FitsAssigned op v = Fits ctx own n (kind.AssignExpr op) (j ∷ l ∷ []) v
 
   -- by an operator on Numbers
   by_numbers : (op : AssignOp) (f : JsNumber → JsNumber → Option JsNumber) → ((m : JsNumber) → FitsAssigned op (Number m))
-      → GivesBy (FitsAssigned op) (target.reference x >>= λ r. read x r >>= λ v. right.value x >>= λ w. given (option_map Number (both f (number_from v) (number_from w))) >>= λ u. write x r u >>= λ _. give u)
-  by_numbers op f h = then_gives (target.reference x) (λ r. then_gives (read x r) (λ v. then_gives (right.value x) (λ w. bind_gives (mapped_gives Number (both f (number_from v) (number_from w)) h) (λ u p. then_gives (write x r u) (λ _. give_gives u p)))))
+      → GivesBy (FitsAssigned op) (target.written (lone x) >>= λ r. read (lone x) r >>= λ v. right.value (lone x) >>= λ w. given (option_map Number (both f (number_from v) (number_from w))) >>= λ u. write (lone x) r u >>= λ _. give u)
+  by_numbers op f h = then_gives (target.written (lone x)) (λ r. then_gives (read (lone x) r)
+      (λ v. then_gives (right.value (lone x)) (λ w. bind_gives (mapped_gives Number (both f (number_from v) (number_from w)) h) (λ u p. then_gives (write (lone x) r u) (λ _. give_gives u p)))))
 
-  pub assign_gives : (op : AssignOp) → GivesBy (FitsAssigned op) (assign op target right x)
+  pub assign_gives : (op : AssignOp) → GivesBy (FitsAssigned op) (assign op target right (lone x))
   unfolding truth_by number_by text_by type_by
   assign_gives operation.Assign =
-      weaker_gives (λ v c. let h : IsAsJudged l v = of_came (IsAsJudged l) (right.value x) hr v c in record { truth = h.truth; number = tt; text = tt; type = h.type }) (ht (right.value x))
+      weaker_gives (λ v c. let h : IsAsJudged l v = of_came (IsAsJudged l) (right.value (lone x)) hr v c in record { truth = h.truth; number = tt; text = tt; type = h.type }) (ht (right.value (lone x)))
   assign_gives operation.AddAssign =
-      then_gives (target.reference x) (λ r. then_gives (read x r) (λ v. bind_gives hr (λ w q.
-      bind_gives (weaker_gives {Q = FitsAssigned operation.AddAssign} (λ u t. record { truth = tt; number = tt; text = tt; type = t }) (typed_sum v w Unknown l.type tt q.type)) (λ u p. then_gives (write x r u) (λ _. give_gives u p)))))
+      then_gives (target.written (lone x)) (λ r. then_gives (read (lone x) r) (λ v. bind_gives hr (λ w q.
+      bind_gives (weaker_gives {Q = FitsAssigned operation.AddAssign} (λ u t. record { truth = tt; number = tt; text = tt; type = t }) (typed_sum v w Unknown l.type tt q.type))
+          (λ u p. then_gives (write (lone x) r u) (λ _. give_gives u p)))))
   assign_gives operation.SubAssign = by_numbers operation.SubAssign difference_of (λ m. record { truth = tt; number = tt; text = tt; type = refl })
   assign_gives operation.MulAssign = by_numbers operation.MulAssign product_of (λ m. record { truth = tt; number = tt; text = tt; type = refl })
   assign_gives operation.DivAssign = by_numbers operation.DivAssign quotient_of (λ m. record { truth = tt; number = tt; text = tt; type = refl })

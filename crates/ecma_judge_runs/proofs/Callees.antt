@@ -25,6 +25,7 @@ use Rattle.ecma_runs.specs.Functions.{Callee, Called, read, callee_by, call}
 use Rattle.ecma_runs.specs.Expressions.{call_by, member_of, chained, continued, call_link}
 use Rattle.ecma_runs.proofs.Layer.{meaning_out}
 use Rattle.ecma_runs.proofs.Names.{same_id-equal}
+use Rattle.ecma_judge_runs.proofs.Lone.{lone}
 use Rattle.ecma_judge_runs.specs.Called.{is_function_expression, is_loose, declares_no_loose, called}
 use Rattle.ecma_judge_runs.proofs.Leaving.{Follows, LeavesBy, Leaves, bind_by, bind_leaves, weaker, give_by, give_leaves, throw_leaves, outside_leaves, when_leaves, unless_leaves, given_leaves}
 use Rattle.ecma_judge_runs.proofs.Literals.{contrary, or_false}
@@ -90,62 +91,62 @@ module _ (ctx : ExprCtx) where
 
       -- members of `Math` are open
 
-      math_member : (name : List ℕ) → name ≡ codes "Math" → (key : Run (List ℕ)) → LeavesBy old IsTextMember (member_of x (ToFree name) key)
-      math_member name is key = subst (λ z. LeavesBy old IsTextMember (member_of x (ToFree z) key)) (sym is) (outside_leaves old)
+      math_member : (name : List ℕ) → name ≡ codes "Math" → (key : Run (List ℕ)) → LeavesBy old IsTextMember (member_of (lone x) (ToFree name) key)
+      math_member name is key = subst (λ z. LeavesBy old IsTextMember (member_of (lone x) (ToFree z) key)) (sym is) (outside_leaves old)
 
       math_reference : (object : Node) (k : Kind) (os : List Node) → (is_name k ≡ true → Clear) → is_math ctx k ≡ true → (key : Run (List ℕ))
-          → LeavesBy old IsTextMember ((meaning_by object k (map meaning os)).reference x >>= λ r. member_of x r key)
+          → LeavesBy old IsTextMember ((meaning_by object k (map meaning os)).reference (lone x) >>= λ r. member_of (lone x) r key)
       math_reference object (kind.Ident name ctxt optional) [] clear is key =
           let t = both_true (is_loose ctx ctxt) (bytes_eq name (codes "Math")) is in
           bind_by old (loose_by x.scope (clear refl) x.known.declared (record { sym = name; ctxt = ctxt }) t.0)
-          (λ r same. subst (λ z. LeavesBy old IsTextMember (member_of x z key)) (sym same) (math_member name ((bytes_eq-Decides name (codes "Math")).0 t.1) key))
+          (λ r same. subst (λ z. LeavesBy old IsTextMember (member_of (lone x) z key)) (sym same) (math_member name ((bytes_eq-Decides name (codes "Math")).0 t.1) key))
       math_reference object (kind.Ident name ctxt optional) (c ∷ cs) clear is key = outside_leaves old
       math_reference object k os clear is key = absurd (cc)
 
       -- members of a text literal
 
-      text_member_by : (text : List ℕ) (key : Run (List ℕ)) → Leaves old key → LeavesBy old IsTextMember (member_of x (ToValue (Text text)) key)
+      text_member_by : (text : List ℕ) (key : Run (List ℕ)) → Leaves old key → LeavesBy old IsTextMember (member_of (lone x) (ToValue (Text text)) key)
       text_member_by text key h =
           bind_by old {P = λ v. v ≡ Text text} (give_by old (Text text) refl) (λ o is. bind_leaves old h (λ k. give_by old (ToMember o k) (text, k, ap (λ z. ToMember z k) is)))
 
       text_reference : (object : Node) (k : Kind) (os : List Node) → is_text_literal k ≡ true → (key : Run (List ℕ)) → Leaves old key
-          → LeavesBy old IsTextMember ((meaning_by object k (map meaning os)).reference x >>= λ r. member_of x r key)
+          → LeavesBy old IsTextMember ((meaning_by object k (map meaning os)).reference (lone x) >>= λ r. member_of (lone x) r key)
       text_reference object (kind.Str text raw) [] is key h =
           bind_by old {P = λ r. r ≡ ToValue (Text text)} (bind_by old {P = λ v. v ≡ Text text} (give_by old (Text text) refl) (λ v same. give_by old (ToValue v) (ap ToValue same)))
-          (λ r same. subst (λ z. LeavesBy old IsTextMember (member_of x z key)) (sym same) (text_member_by text key h))
+          (λ r same. subst (λ z. LeavesBy old IsTextMember (member_of (lone x) z key)) (sym same) (text_member_by text key h))
       text_reference object (kind.Str text raw) (c ∷ cs) is key h = outside_leaves old
       text_reference object k os is key h = absurd (cc)
 
-      name_key : (key : Node) (name : List ℕ) (ks : List Node) → Leaves old ((meaning_by key (kind.IdentName name) (map meaning ks)).key x)
+      name_key : (key : Node) (name : List ℕ) (ks : List Node) → Leaves old ((meaning_by key (kind.IdentName name) (map meaning ks)).key (lone x))
       name_key key name [] = give_leaves old name
       name_key key name (c ∷ cs) = outside_leaves old
 
       named_member : (object key : Node) (k : Kind) (name : List ℕ) (os ks : List Node) → (is_name k ≡ true → Clear) → (is_math ctx k ≡ true) ⊎ ((is_text_literal k && is_word name reading_methods) ≡ true)
-          → LeavesBy old IsTextMember ((meaning_by object k (map meaning os)).reference x >>= λ r. member_of x r ((meaning_by key (kind.IdentName name) (map meaning ks)).key x))
-      named_member object key k name os ks clear (inl is) = math_reference object k os clear is ((meaning_by key (kind.IdentName name) (map meaning ks)).key x)
+          → LeavesBy old IsTextMember ((meaning_by object k (map meaning os)).reference (lone x) >>= λ r. member_of (lone x) r ((meaning_by key (kind.IdentName name) (map meaning ks)).key (lone x)))
+      named_member object key k name os ks clear (inl is) = math_reference object k os clear is ((meaning_by key (kind.IdentName name) (map meaning ks)).key (lone x))
       named_member object key k name os ks clear (inr is) =
-          text_reference object k os (both_true (is_text_literal k) (is_word name reading_methods) is).0 ((meaning_by key (kind.IdentName name) (map meaning ks)).key x) (name_key key name ks)
+          text_reference object k os (both_true (is_text_literal k) (is_word name reading_methods) is).0 ((meaning_by key (kind.IdentName name) (map meaning ks)).key (lone x)) (name_key key name ks)
 
       member_kinds : (object key : Node) (k l : Kind) (os ks : List Node) → (is_name k ≡ true → Clear) → is_pure_member ctx k l ≡ true
-          → LeavesBy old IsTextMember ((meaning_by object k (map meaning os)).reference x >>= λ r. member_of x r ((meaning_by key l (map meaning ks)).key x))
+          → LeavesBy old IsTextMember ((meaning_by object k (map meaning os)).reference (lone x) >>= λ r. member_of (lone x) r ((meaning_by key l (map meaning ks)).key (lone x)))
       member_kinds object key k (kind.IdentName name) os ks clear is = named_member object key k name os ks clear (either_true (is_math ctx k) (is_text_literal k && is_word name reading_methods) is)
       member_kinds object key k l os ks clear is = absurd (cc)
 
       member_of_pure : (object key : Node) → (is_name (out-Node object).kind ≡ true → Clear) → is_pure_member_of ctx object key ≡ true
-          → LeavesBy old IsTextMember ((meaning object).reference x >>= λ r. member_of x r ((meaning key).key x))
+          → LeavesBy old IsTextMember ((meaning object).reference (lone x) >>= λ r. member_of (lone x) r ((meaning key).key (lone x)))
       member_of_pure object key clear is =
-          subst (λ m. LeavesBy old IsTextMember (m.reference x >>= λ r. member_of x r ((meaning key).key x))) (sym (meaning_out object))
-          (subst (λ m. LeavesBy old IsTextMember ((meaning_by object (out-Node object).kind (map meaning (out-Node object).children)).reference x >>= λ r. member_of x r (m.key x))) (sym (meaning_out key))
+          subst (λ m. LeavesBy old IsTextMember (m.reference (lone x) >>= λ r. member_of (lone x) r ((meaning key).key (lone x)))) (sym (meaning_out object))
+          (subst (λ m. LeavesBy old IsTextMember ((meaning_by object (out-Node object).kind (map meaning (out-Node object).children)).reference (lone x) >>= λ r. member_of (lone x) r (m.key (lone x)))) (sym (meaning_out key))
           (member_kinds object key (out-Node object).kind (out-Node key).kind (out-Node object).children (out-Node key).children clear is))
 
       pub pure_member : (n object key : Node) → (out-Node n).children ≡ object ∷ key ∷ [] → (is_name (out-Node object).kind ≡ true → Clear) → pure_callee_by ctx kind.MemberExpr n ≡ true
-          → LeavesBy old IsTextMember ((meaning object).reference x >>= λ r. member_of x r ((meaning key).key x))
+          → LeavesBy old IsTextMember ((meaning object).reference (lone x) >>= λ r. member_of (lone x) r ((meaning key).key (lone x)))
       unfolding pure_callee_by
       pure_member n object key shape clear is =
           member_of_pure object key clear (passes_second (is_pure_member_of ctx object) n object key [] shape (passes_first (has_pure_key ctx n) n object (key ∷ []) shape is))
 
       pure_refers : (n : Node) (k : Kind) (cs : List Node) → (out-Node n).children ≡ cs → is_function_expression k ≡ false → (needs_globals k cs ≡ true → Clear) → pure_callee_by ctx k n ≡ true
-          → LeavesBy old RefersPurely ((meaning_by n k (map meaning cs)).reference x)
+          → LeavesBy old RefersPurely ((meaning_by n k (map meaning cs)).reference (lone x))
       unfolding pure_callee_by
       pure_refers n (kind.Ident name ctxt optional) [] shape other clear is =
           let t = both_true (ctxt == ctx.unresolved_ctxt) (bytes_eq name (codes "Date")) is in
@@ -164,7 +165,7 @@ module _ (ctx : ExprCtx) where
 
         -- what follows a pure callee
         pub pure_then : (n : Node) (k : Kind) (cs : List Node) → (out-Node n).children ≡ cs → is_function_expression k ≡ false → (needs_globals k cs ≡ true → Clear) → pure_callee_by ctx k n ≡ true
-            → LeavesBy old Q ((meaning_by n k (map meaning cs)).reference x >>= λ r. then_run r)
+            → LeavesBy old Q ((meaning_by n k (map meaning cs)).reference (lone x) >>= λ r. then_run r)
         pure_then n k cs shape other clear is = bind_by old (pure_refers n k cs shape other clear is) then_by
 
   -- a member of a text is its length, which is no function, or open
@@ -180,49 +181,50 @@ module _ (ctx : ExprCtx) where
   module _ (old : State) (x : ExecutionContext) where
     -- such an expression that is read
 
-    callee_value : (n : Node) (k : Kind) (cs : List Node) → (out-Node n).children ≡ cs → is_function_expression k ≡ false → (needs_globals k cs ≡ true → Clear old x) → pure_callee_by ctx k n ≡ true
-        → Leaves old ((meaning_by n k (map meaning cs)).value x)
+    callee_value : (n : Node) (k : Kind) (cs : List Node) → (out-Node n).children ≡ cs → is_function_expression k ≡ false → (needs_globals k cs ≡ true → Clear old (lone x)) → pure_callee_by ctx k n ≡ true
+        → Leaves old ((meaning_by n k (map meaning cs)).value (lone x))
     unfolding pure_callee_by
     callee_value n (kind.Ident name ctxt optional) [] shape other clear is =
-        pure_then old x (λ v. Unit {0}) (λ r. read x r) (read_leaves old x (ToFree (codes "Date")) refl) (text_member_leaves old) n (kind.Ident name ctxt optional) [] shape other clear is
+        pure_then old (lone x) (λ v. Unit {0}) (λ r. read (lone x) r) (read_leaves old (lone x) (ToFree (codes "Date")) refl) (text_member_leaves old) n (kind.Ident name ctxt optional) [] shape other clear is
     callee_value n (kind.Ident name ctxt optional) (c ∷ cs) shape other clear is = outside_leaves old
     callee_value n kind.MemberExpr (object ∷ key ∷ []) shape other clear is =
-        pure_then old x (λ v. Unit {0}) (λ r. read x r) (read_leaves old x (ToFree (codes "Date")) refl) (text_member_leaves old) n kind.MemberExpr (object ∷ key ∷ []) shape other clear is
+        pure_then old (lone x) (λ v. Unit {0}) (λ r. read (lone x) r) (read_leaves old (lone x) (ToFree (codes "Date")) refl) (text_member_leaves old) n kind.MemberExpr (object ∷ key ∷ []) shape other clear is
     callee_value n kind.MemberExpr cs shape other clear is = outside_leaves old
     callee_value n kind.FnExpr cs shape other clear is = absurd (cc)
     callee_value n k cs shape other clear is = absurd (cc)
 
-    pub read_callee : (n : Node) → is_function_expression (out-Node n).kind ≡ false → (needs_globals (out-Node n).kind (out-Node n).children ≡ true → Clear old x) → pure_callee_by ctx (out-Node n).kind n ≡ true
-        → Leaves old ((meaning n).value x)
-    read_callee n other clear is = subst (λ m. Leaves old (m.value x)) (sym (meaning_out n)) (callee_value n (out-Node n).kind (out-Node n).children refl other clear is)
+    pub read_callee : (n : Node) → is_function_expression (out-Node n).kind ≡ false → (needs_globals (out-Node n).kind (out-Node n).children ≡ true → Clear old (lone x)) → pure_callee_by ctx (out-Node n).kind n ≡ true
+        → Leaves old ((meaning n).value (lone x))
+    read_callee n other clear is = subst (λ m. Leaves old (m.value (lone x))) (sym (meaning_out n)) (callee_value n (out-Node n).kind (out-Node n).children refl other clear is)
 
     -- a call on values that are there
-    pub call_on : (values : List Value) (n : Node) (k : Kind) (cs : List Node) → (out-Node n).children ≡ cs → is_function_expression k ≡ false → (needs_globals k cs ≡ true → Clear old x)
-        → pure_callee_by ctx k n ≡ true → Leaves old (called (meaning_by n k (map meaning cs)) values x)
+    pub call_on : (values : List Value) (n : Node) (k : Kind) (cs : List Node) → (out-Node n).children ≡ cs → is_function_expression k ≡ false → (needs_globals k cs ≡ true → Clear old (lone x))
+        → pure_callee_by ctx k n ≡ true → Leaves old (called (meaning_by n k (map meaning cs)) values (lone x))
     call_on values n k cs shape other clear is =
-        pure_then old x (λ v. Unit {0}) (λ r. callee_by x r >>= λ c. call x c values) (outside_leaves old) (text_call (λ v. Unit {0}) old x (λ c. call x c values) (λ m text. throw_leaves old (Error error.Kind))) n k cs shape other clear is
+        pure_then old (lone x) (λ v. Unit {0}) (λ r. callee_by (lone x) r >>= λ c. call (lone x) c values) (outside_leaves old)
+            (text_call (λ v. Unit {0}) old (lone x) (λ c. call (lone x) c values) (λ m text. throw_leaves old (Error error.Kind))) n k cs shape other clear is
 
     -- ---- on arguments that leave all as it was
 
-    module _ (arguments : Meaning) (h : Leaves old (arguments.arguments x)) where
-      call_behind : (n : Node) (k : Kind) (cs : List Node) → (out-Node n).children ≡ cs → is_function_expression k ≡ false → (needs_globals k cs ≡ true → Clear old x) → pure_callee_by ctx k n ≡ true
-          → Leaves old ((meaning_by n k (map meaning cs)).reference x >>= λ r. callee_by x r >>= λ c. arguments.arguments x >>= λ vs. call x c vs)
+    module _ (arguments : Meaning) (h : Leaves old (arguments.arguments (lone x))) where
+      call_behind : (n : Node) (k : Kind) (cs : List Node) → (out-Node n).children ≡ cs → is_function_expression k ≡ false → (needs_globals k cs ≡ true → Clear old (lone x)) → pure_callee_by ctx k n ≡ true
+          → Leaves old ((meaning_by n k (map meaning cs)).reference (lone x) >>= λ r. callee_by (lone x) r >>= λ c. arguments.arguments (lone x) >>= λ vs. call (lone x) c vs)
       call_behind n k cs shape other clear is =
-          pure_then old x (λ v. Unit {0}) (λ r. callee_by x r >>= λ c. arguments.arguments x >>= λ vs. call x c vs) (outside_leaves old)
-          (text_call (λ v. Unit {0}) old x (λ c. arguments.arguments x >>= λ vs. call x c vs) (λ m text. bind_leaves old h (λ vs. throw_leaves old (Error error.Kind)))) n k cs shape other clear is
+          pure_then old (lone x) (λ v. Unit {0}) (λ r. callee_by (lone x) r >>= λ c. arguments.arguments (lone x) >>= λ vs. call (lone x) c vs) (outside_leaves old)
+          (text_call (λ v. Unit {0}) old (lone x) (λ c. arguments.arguments (lone x) >>= λ vs. call (lone x) c vs) (λ m text. bind_leaves old h (λ vs. throw_leaves old (Error error.Kind)))) n k cs shape other clear is
 
-      call_expression : (n : Node) (k : Kind) (cs : List Node) → (out-Node n).children ≡ cs → is_function_expression k ≡ false → (needs_globals k cs ≡ true → Clear old x) → pure_callee_by ctx k n ≡ true
-          → Leaves old (call_by (meaning_by n k (map meaning cs)).is_super (meaning_by n k (map meaning cs)) arguments x)
+      call_expression : (n : Node) (k : Kind) (cs : List Node) → (out-Node n).children ≡ cs → is_function_expression k ≡ false → (needs_globals k cs ≡ true → Clear old (lone x)) → pure_callee_by ctx k n ≡ true
+          → Leaves old (call_by (meaning_by n k (map meaning cs)).is_super (meaning_by n k (map meaning cs)) arguments (lone x))
       unfolding pure_callee_by
       call_expression n (kind.Ident name ctxt optional) cs shape other clear is = call_behind n (kind.Ident name ctxt optional) cs shape other clear is
       call_expression n kind.MemberExpr cs shape other clear is = call_behind n kind.MemberExpr cs shape other clear is
       call_expression n kind.FnExpr cs shape other clear is = absurd (cc)
       call_expression n k cs shape other clear is = absurd (cc)
 
-      pub call_leaves : (n : Node) → is_function_expression (out-Node n).kind ≡ false → (needs_globals (out-Node n).kind (out-Node n).children ≡ true → Clear old x) → pure_callee_by ctx (out-Node n).kind n ≡ true
-          → Leaves old (call_by (meaning n).is_super (meaning n) arguments x)
+      pub call_leaves : (n : Node) → is_function_expression (out-Node n).kind ≡ false → (needs_globals (out-Node n).kind (out-Node n).children ≡ true → Clear old (lone x)) → pure_callee_by ctx (out-Node n).kind n ≡ true
+          → Leaves old (call_by (meaning n).is_super (meaning n) arguments (lone x))
       call_leaves n other clear is =
-          subst (λ m. Leaves old (call_by m.is_super m arguments x)) (sym (meaning_out n)) (call_expression n (out-Node n).kind (out-Node n).children refl other clear is)
+          subst (λ m. Leaves old (call_by m.is_super m arguments (lone x))) (sym (meaning_out n)) (call_expression n (out-Node n).kind (out-Node n).children refl other clear is)
 
       -- an optional call gives a value, or ends the chain
 
@@ -231,29 +233,29 @@ module _ (ctx : ExprCtx) where
         GivesValue o = Readable (chained o)
 
         abbrev linked : Reference → Run (Option Reference)
-        linked r = callee_by x r >>= λ c. call_link optional c arguments x
+        linked r = callee_by (lone x) r >>= λ c. call_link optional c arguments (lone x)
 
-        link_text : (n : JsNumber) (text : List ℕ) → LeavesBy old GivesValue (call_link optional (Called (Number n) (Text text)) arguments x)
+        link_text : (n : JsNumber) (text : List ℕ) → LeavesBy old GivesValue (call_link optional (Called (Number n) (Text text)) arguments (lone x))
         link_text n text = when_leaves old (optional && false) (give_by old None tt) (bind_leaves old h (λ vs. throw_leaves old (Error error.Kind)))
 
-        link_behind : (n : Node) (k : Kind) (cs : List Node) → (out-Node n).children ≡ cs → is_function_expression k ≡ false → (needs_globals k cs ≡ true → Clear old x) → pure_callee_by ctx k n ≡ true
-            → LeavesBy old GivesValue (((meaning_by n k (map meaning cs)).reference x >>= λ z. give (Some z)) >>= λ o. continued o linked)
+        link_behind : (n : Node) (k : Kind) (cs : List Node) → (out-Node n).children ≡ cs → is_function_expression k ≡ false → (needs_globals k cs ≡ true → Clear old (lone x)) → pure_callee_by ctx k n ≡ true
+            → LeavesBy old GivesValue (((meaning_by n k (map meaning cs)).reference (lone x) >>= λ z. give (Some z)) >>= λ o. continued o linked)
         link_behind n k cs shape other clear is =
-            some_leaves old GivesValue ((meaning_by n k (map meaning cs)).reference x) linked
-            (pure_then old x GivesValue linked (outside_leaves old) (text_call GivesValue old x (λ c. call_link optional c arguments x) link_text) n k cs shape other clear is)
+            some_leaves old GivesValue ((meaning_by n k (map meaning cs)).reference (lone x)) linked
+            (pure_then old (lone x) GivesValue linked (outside_leaves old) (text_call GivesValue old (lone x) (λ c. call_link optional c arguments (lone x)) link_text) n k cs shape other clear is)
 
-        link_expression : (n : Node) (k : Kind) (cs : List Node) → (out-Node n).children ≡ cs → is_function_expression k ≡ false → (needs_globals k cs ≡ true → Clear old x) → pure_callee_by ctx k n ≡ true
-            → LeavesBy old GivesValue ((meaning_by n k (map meaning cs)).chain x >>= λ o. continued o linked)
+        link_expression : (n : Node) (k : Kind) (cs : List Node) → (out-Node n).children ≡ cs → is_function_expression k ≡ false → (needs_globals k cs ≡ true → Clear old (lone x)) → pure_callee_by ctx k n ≡ true
+            → LeavesBy old GivesValue ((meaning_by n k (map meaning cs)).chain (lone x) >>= λ o. continued o linked)
         unfolding pure_callee_by
         link_expression n (kind.Ident name ctxt optional') cs shape other clear is = link_behind n (kind.Ident name ctxt optional') cs shape other clear is
         link_expression n kind.MemberExpr cs shape other clear is = link_behind n kind.MemberExpr cs shape other clear is
         link_expression n kind.FnExpr cs shape other clear is = absurd (cc)
         link_expression n k cs shape other clear is = absurd (cc)
 
-        pub link_leaves : (n : Node) → is_function_expression (out-Node n).kind ≡ false → (needs_globals (out-Node n).kind (out-Node n).children ≡ true → Clear old x) → pure_callee_by ctx (out-Node n).kind n ≡ true
-            → LeavesBy old GivesValue ((meaning n).chain x >>= λ o. continued o linked)
+        pub link_leaves : (n : Node) → is_function_expression (out-Node n).kind ≡ false → (needs_globals (out-Node n).kind (out-Node n).children ≡ true → Clear old (lone x)) → pure_callee_by ctx (out-Node n).kind n ≡ true
+            → LeavesBy old GivesValue ((meaning n).chain (lone x) >>= λ o. continued o linked)
         link_leaves n other clear is =
-            subst (λ m. LeavesBy old GivesValue (m.chain x >>= λ o. continued o linked)) (sym (meaning_out n)) (link_expression n (out-Node n).kind (out-Node n).children refl other clear is)
+            subst (λ m. LeavesBy old GivesValue (m.chain (lone x) >>= λ o. continued o linked)) (sym (meaning_out n)) (link_expression n (out-Node n).kind (out-Node n).children refl other clear is)
 
   -- what a call without effects says of its parts
 

@@ -9,6 +9,7 @@ use Rattle.ecma_runs.specs.Host.{show, use_host}
 use Rattle.ecma_runs.specs.Meaning.{AsConstruct, ExecutionContext}
 use Rattle.ecma_runs.specs.Objects.{Calling, Function, BoundFunction, calling_at}
 use Rattle.ecma_runs.specs.Functions.{constructed, construct_function, construct_target, construct_calling, construct}
+use Rattle.ecma_judge_runs.proofs.Lone.{lone}
 use Rattle.ecma_judge_runs.specs.Known.{is_of_type, ConstructsObjects}
 use Rattle.ecma_judge_runs.proofs.Giving.{Gave, GivesBy, then_gives, give_gives, throw_gives, outside_gives}
 
@@ -34,28 +35,28 @@ constructed_gives (Own place) = give_gives (Own place) refl
 constructed_gives (Host number) = give_gives (Host number) refl
 constructed_gives v = outside_gives
 
-module _ (x : ExecutionContext) (objects : ConstructsObjects x) (new_target : ℕ) where
+module _ (x : ExecutionContext) (objects : ConstructsObjects (lone x)) (new_target : ℕ) where
   invoke_gives : (place : ℕ) (arguments : List Value) → GivesBy IsObject (x.functions.invoke place (AsConstruct new_target) arguments)
   invoke_gives place arguments =
       record { at = λ s. gave_of IsObject (x.functions.invoke place (AsConstruct new_target) arguments s) (λ v t is. objects place new_target arguments s t v is) }
 
-  function_gives : (place : ℕ) (arguments : List Value) (sort : Sort) → GivesBy IsObject (construct_function x place new_target arguments sort)
+  function_gives : (place : ℕ) (arguments : List Value) (sort : Sort) → GivesBy IsObject (construct_function (lone x) place new_target arguments sort)
   function_gives place arguments Method = throw_gives _
   function_gives place arguments Arrow = throw_gives _
   function_gives place arguments sort = invoke_gives place arguments
 
-  target_gives : (place : ℕ) (arguments : List Value) (o : Option Calling) → GivesBy IsObject (construct_target x place new_target arguments o)
+  target_gives : (place : ℕ) (arguments : List Value) (o : Option Calling) → GivesBy IsObject (construct_target (lone x) place new_target arguments o)
   target_gives place arguments (Some (Function sort)) = function_gives place arguments sort
   target_gives place arguments o = outside_gives
 
-module _ (x : ExecutionContext) (objects : ConstructsObjects x) where
-  calling_gives : (place new_target : ℕ) (arguments : List Value) (o : Option Calling) → GivesBy IsObject (construct_calling x place new_target arguments o)
+module _ (x : ExecutionContext) (objects : ConstructsObjects (lone x)) where
+  calling_gives : (place new_target : ℕ) (arguments : List Value) (o : Option Calling) → GivesBy IsObject (construct_calling (lone x) place new_target arguments o)
   calling_gives place new_target arguments None = throw_gives _
-  calling_gives place new_target arguments (Some (Function sort)) = function_gives x objects new_target place arguments sort
+  calling_gives place new_target arguments (Some (Function sort)) = function_gives (lone x) objects new_target place arguments sort
   calling_gives place new_target arguments (Some (BoundFunction target this given)) =
-      then_gives (calling_at target) (λ o. target_gives x objects (cond (nat_eq place new_target) target new_target) target (given ++ arguments) o)
+      then_gives (calling_at target) (λ o. target_gives (lone x) objects (cond (nat_eq place new_target) target new_target) target (given ++ arguments) o)
 
-  pub construct_gives : (f : Value) (arguments : List Value) → GivesBy IsObject (construct x f arguments)
+  pub construct_gives : (f : Value) (arguments : List Value) → GivesBy IsObject (construct (lone x) f arguments)
   construct_gives (Own place) arguments = then_gives (calling_at place) (λ o. calling_gives place place arguments o)
   construct_gives (Host number) arguments = then_gives (each show arguments) (λ shown. then_gives (use_host (event.HostNew number shown)) (λ v. constructed_gives v))
   construct_gives (Error error_kind) arguments = outside_gives

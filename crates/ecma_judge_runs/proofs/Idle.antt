@@ -11,6 +11,7 @@ use Rattle.ecma_judge.specs.Judged.{judged}
 use Rattle.ecma_judge.specs.Judgement.{Judged, any_has_effects}
 use Rattle.ecma_judge.specs.PureCallees.{pure_callee_by}
 use Rattle.ecma_runs.specs.Meaning.{ExecutionContext}
+use Rattle.ecma_judge_runs.proofs.Lone.{lone}
 use Rattle.ecma_judge_runs.specs.Called.{Assumed}
 use Rattle.ecma_judge_runs.specs.Taken.{Taken, all_whole, is_taken_by, taken, is_taken}
 use Rattle.ecma_judge_runs.specs.Known.{Marks, marks, is_told_of, is_valued, is_valued_by, last_or}
@@ -79,7 +80,7 @@ module _ (ctx : ExprCtx) (sure : Assumed) (objects : Bool) (x : ExecutionContext
         ∙ subst (λ l. is_valued_by objects parts.kind (map (marks objects) l) ≡ true) is
         (layer_valued (roll-Node parts) parts.kind ns
         (subst (λ l. (not (pure_callee_by ctx parts.kind (roll-Node parts)) && effects_by ctx parts.kind (roll-Node parts) (map (judged ctx) l)) ≡ false) (sym is) (sym (effects-roll ctx parts) ∙ none))
-        (subst (λ l. is_taken_by ctx x.known.declared sure parts.kind (map (taken ctx x.known.declared sure) l) ≡ true) (sym is) (sym (ap (λ (t : Taken). t.whole) (taken-roll ctx sure x parts)) ∙ whole)));
+        (subst (λ l. is_taken_by ctx x.known.declared sure parts.kind (map (taken ctx x.known.declared sure) l) ≡ true) (sym is) (sym (ap (λ (t : Taken). t.whole) (taken-roll ctx sure (lone x) parts)) ∙ whole)));
   }
 
   idle : (n : Node) → Idle n

@@ -19,6 +19,7 @@ use Rattle.ecma_runs.specs.Evaluation.{in_record, as_it_is, called_with, entered
 use Rattle.ecma_runs.proofs.Layer.{meaning_out}
 use Rattle.ecma_runs.proofs.Names.{among_first}
 use Rattle.ecma_runs.proofs.Scopes.{ids_of-empties}
+use Rattle.ecma_judge_runs.proofs.Lone.{lone}
 use Rattle.ecma_judge_runs.specs.Still.{Still}
 use Rattle.ecma_judge_runs.specs.Called.{is_function_expression, called, AppliesFunctions}
 use Rattle.ecma_judge_runs.specs.Idle.{is_named_by, is_named, is_plain_by, is_plain, are_plain_by, are_plain, has_none_by, has_none, is_empty_by, is_empty, is_harmless_by, is_harmless}
@@ -201,11 +202,11 @@ module _ (old : State) where
   RefersToIdle r s = (f : ℕ) × (r ≡ ToValue (Own f)) × Idle f s
 
   module _ (x : ExecutionContext) where
-    value_idle : (ids : List Id) (function : Node) → is_harmless function ≡ true → LeavesFrom old Any RefersToIdle (function_value ids (meaning function) x >>= λ v. give (ToValue v))
+    value_idle : (ids : List Id) (function : Node) → is_harmless function ≡ true → LeavesFrom old Any RefersToIdle (function_value ids (meaning function) (lone x) >>= λ v. give (ToValue v))
     value_idle ids function h =
         bind_from old {P = λ v s. (f : ℕ) × (v ≡ Own f) × Idle f s}
         (bind_from old (of_leaves old {R = Any} (new_environment_by old (map (empty true) ids) None)) (λ place. where_alone_from old (λ new.
-        bind_from old (made_idle (inside x place) function h) (λ f. bind_from old (set_all_from old (IsIdleAt f) ids place.place (Own f) new) (λ _. give_from old (Own f) (λ s i. (f, refl, i)))))))
+        bind_from old (made_idle (inside (lone x) place) function h) (λ f. bind_from old (set_all_from old (IsIdleAt f) ids place.place (Own f) new) (λ _. give_from old (Own f) (λ s i. (f, refl, i)))))))
         (λ v. give_from old (ToValue v) (λ s i. (i.0, ap ToValue i.1, i.2)))
 
     -- ---- its call
@@ -217,85 +218,85 @@ module _ (old : State) where
     invoked_leaves m f home sort vs y is h = absurd (cc)
 
     calling_follows : (f : ℕ) (sort : Sort) (vs : List Value) (s : State) → is_entered sort ≡ true
-        → FollowsIn old (λ v t. Unit {0}) (x.functions.invoke f (AsCall Undefined) vs s) → FollowsIn old (λ v t. Unit {0}) (call_calling x f Undefined vs (Some (Function sort)) s)
+        → FollowsIn old (λ v t. Unit {0}) (x.functions.invoke f (AsCall Undefined) vs s) → FollowsIn old (λ v t. Unit {0}) (call_calling (lone x) f Undefined vs (Some (Function sort)) s)
     calling_follows f Plain vs s is h = h
     calling_follows f Method vs s is h = h
     calling_follows f sort vs s is h = absurd (cc)
 
-    module _ (applies : AppliesFunctions x) where
-      apply_at_idle : (inner : ℕ → Invocation → List Value → Run Value) (f : ℕ) (vs : List Value) → LeavesFrom old (Idle f) (λ v s. Unit {0}) (apply_at inner x.provided x.known f (AsCall Undefined) vs)
+    module _ (applies : AppliesFunctions (lone x)) where
+      apply_at_idle : (inner : ℕ → Invocation → List Value → Run Value) (f : ℕ) (vs : List Value) → LeavesFrom old (Idle f) (λ v s. Unit {0}) (apply_at inner x.provided (lone x).known f (AsCall Undefined) vs)
       apply_at_idle inner f vs = record {
         at = λ s g h.
-            let functions = functions_with inner x.provided x.known in
-            subst (λ z. FollowsIn old (λ v s. Unit {0}) (invoke_closure functions x.provided x.known f (AsCall Undefined) vs (code_in (callable_in z)) s)) (sym h.at)
-            (subst (λ z. FollowsIn old (λ v s. Unit {0}) (invoke_closure functions x.provided x.known f (AsCall Undefined) vs (code_in z) s)) (sym h.code)
-            ((of_leaves old {R = Any} (invoked_leaves (meaning h.closure.node) f h.closure.home h.closure.sort vs (closure_context functions x.provided x.known h.closure) h.enters
-            (entered_leaves old (closure_context functions x.provided x.known h.closure) (Some (called_with Undefined f h.closure.home vs)) vs h.closure.node h.idle))).at s g tt));
+            let functions = functions_with inner x.provided (lone x).known in
+            subst (λ z. FollowsIn old (λ v s. Unit {0}) (invoke_closure functions x.provided (lone x).known f (AsCall Undefined) vs (code_in (callable_in z)) s)) (sym h.at)
+            (subst (λ z. FollowsIn old (λ v s. Unit {0}) (invoke_closure functions x.provided (lone x).known f (AsCall Undefined) vs (code_in z) s)) (sym h.code)
+            ((of_leaves old {R = Any} (invoked_leaves (meaning h.closure.node) f h.closure.home h.closure.sort vs (closure_context functions x.provided (lone x).known h.closure) h.enters
+            (entered_leaves old (closure_context functions x.provided (lone x).known h.closure) (Some (called_with Undefined f h.closure.home vs)) vs h.closure.node h.idle))).at s g tt));
       }
 
-      apply_idle : (inner : ℕ → Invocation → List Value → Run Value) (f : ℕ) (vs : List Value) → LeavesFrom old (Idle f) (λ v s. Unit {0}) (apply inner x.provided x.known f (AsCall Undefined) vs)
+      apply_idle : (inner : ℕ → Invocation → List Value → Run Value) (f : ℕ) (vs : List Value) → LeavesFrom old (Idle f) (λ v s. Unit {0}) (apply inner x.provided (lone x).known f (AsCall Undefined) vs)
       apply_idle inner f vs = bind_from old (kept_from old (Idle f) (still_idle f) (λ s. spend_leaves s)) (λ _. apply_at_idle inner f vs)
 
       invoke_follows : (f : ℕ) (vs : List Value) (s : State) → Still old s → Idle f s
           → ((x.functions.invoke f (AsCall Undefined) vs s ≡ Ended TurnsSpent s)
-          ⊎ ((inner : ℕ → Invocation → List Value → Run Value) × (x.functions.invoke f (AsCall Undefined) vs s ≡ apply inner x.provided x.known f (AsCall Undefined) vs s)))
+          ⊎ ((inner : ℕ → Invocation → List Value → Run Value) × (x.functions.invoke f (AsCall Undefined) vs s ≡ apply inner x.provided (lone x).known f (AsCall Undefined) vs s)))
           → FollowsIn old (λ v t. Unit {0}) (x.functions.invoke f (AsCall Undefined) vs s)
       invoke_follows f vs s g h (inl e) = subst (λ r. FollowsIn old (λ v t. Unit {0}) r) (sym e) g
       invoke_follows f vs s g h (inr e) = subst (λ r. FollowsIn old (λ v t. Unit {0}) r) (sym e.1) ((apply_idle e.0 f vs).at s g h)
 
-      call_idle : (f : ℕ) (vs : List Value) → LeavesFrom old (Idle f) (λ v s. Unit {0}) (call_own x f Undefined vs)
+      call_idle : (f : ℕ) (vs : List Value) → LeavesFrom old (Idle f) (λ v s. Unit {0}) (call_own (lone x) f Undefined vs)
       call_idle f vs = record {
         at = λ s g h.
-            subst (λ z. FollowsIn old (λ v t. Unit {0}) (then_outcome (calling_of (callable_in z) s) (λ o. call_calling x f Undefined vs o))) (sym h.at)
-            (subst (λ z. FollowsIn old (λ v t. Unit {0}) (then_outcome (calling_of z s) (λ o. call_calling x f Undefined vs o))) (sym h.code)
+            subst (λ z. FollowsIn old (λ v t. Unit {0}) (then_outcome (calling_of (callable_in z) s) (λ o. call_calling (lone x) f Undefined vs o))) (sym h.at)
+            (subst (λ z. FollowsIn old (λ v t. Unit {0}) (then_outcome (calling_of z s) (λ o. call_calling (lone x) f Undefined vs o))) (sym h.code)
             (calling_follows f h.closure.sort vs s h.enters (invoke_follows f vs s g h (applies f (AsCall Undefined) vs s))));
       }
 
       -- on values that are there
 
-      call_of : (values : List Value) (r : Reference) → LeavesFrom old (RefersToIdle r) (λ v s. Unit {0}) (callee_by x r >>= λ c. call x c values)
+      call_of : (values : List Value) (r : Reference) → LeavesFrom old (RefersToIdle r) (λ v s. Unit {0}) (callee_by (lone x) r >>= λ c. call (lone x) c values)
       call_of values r = record {
-        at = λ s g i. subst (λ z. FollowsIn old (λ v t. Unit {0}) ((callee_by x z >>= λ c. call x c values) s)) (sym i.1) ((call_idle i.0 values).at s g i.2);
+        at = λ s g i. subst (λ z. FollowsIn old (λ v t. Unit {0}) ((callee_by (lone x) z >>= λ c. call (lone x) c values) s)) (sym i.1) ((call_idle i.0 values).at s g i.2);
       }
 
-      either_called_on : (values : List Value) (b : Bool) (m k : Meaning) → Leaves old (called m values x) → Leaves old (called k values x) → Leaves old (called (cond b m k) values x)
+      either_called_on : (values : List Value) (b : Bool) (m k : Meaning) → Leaves old (called m values (lone x)) → Leaves old (called k values (lone x)) → Leaves old (called (cond b m k) values (lone x))
       either_called_on values true m k hm hk = hm
       either_called_on values false m k hm hk = hk
 
       function_called : (values : List Value) (n : Node) (k : Kind) (cs : List Node) → (out-Node n).children ≡ cs → is_function_expression k ≡ true → passes_at is_harmless 1 n ≡ true
-          → Leaves old (called (meaning_by n k (map meaning cs)) values x)
+          → Leaves old (called (meaning_by n k (map meaning cs)) values (lone x))
       function_called values n kind.FnExpr (name ∷ function ∷ []) shape is idle =
           either_called_on values (has_no_effect kind.FnExpr (meaning name ∷ meaning function ∷ [])) (no_effect n) (role_by n kind.FnExpr (meaning name ∷ meaning function ∷ [])) (outside_leaves old)
           (leaves_of old (bind_from old (value_idle (meaning name).names function (passes_second is_harmless n name function [] shape idle)) (call_of values)))
       function_called values n kind.FnExpr cs shape is idle = outside_leaves old
       function_called values n k cs shape is idle = absurd (cc)
 
-      pub function_called_on : (values : List Value) (n : Node) → is_function_expression (out-Node n).kind ≡ true → passes_at is_harmless 1 n ≡ true → Leaves old (called (meaning n) values x)
+      pub function_called_on : (values : List Value) (n : Node) → is_function_expression (out-Node n).kind ≡ true → passes_at is_harmless 1 n ≡ true → Leaves old (called (meaning n) values (lone x))
       function_called_on values n is idle =
-          subst (λ m. Leaves old (called m values x)) (sym (meaning_out n)) (function_called values n (out-Node n).kind (out-Node n).children refl is idle)
+          subst (λ m. Leaves old (called m values (lone x))) (sym (meaning_out n)) (function_called values n (out-Node n).kind (out-Node n).children refl is idle)
 
       -- on arguments that leave all as it was
 
-      module _ (arguments : Meaning) (h : (s : State) → Leaves s (arguments.arguments x)) where
-        call_behind : (r : Reference) → LeavesFrom old (RefersToIdle r) (λ v s. Unit {0}) (callee_by x r >>= λ c. arguments.arguments x >>= λ vs. call x c vs)
+      module _ (arguments : Meaning) (h : (s : State) → Leaves s (arguments.arguments (lone x))) where
+        call_behind : (r : Reference) → LeavesFrom old (RefersToIdle r) (λ v s. Unit {0}) (callee_by (lone x) r >>= λ c. arguments.arguments (lone x) >>= λ vs. call (lone x) c vs)
         call_behind r = record {
-          at = λ s g i. subst (λ z. FollowsIn old (λ v t. Unit {0}) ((callee_by x z >>= λ c. arguments.arguments x >>= λ vs. call x c vs) s)) (sym i.1)
+          at = λ s g i. subst (λ z. FollowsIn old (λ v t. Unit {0}) ((callee_by (lone x) z >>= λ c. arguments.arguments (lone x) >>= λ vs. call (lone x) c vs) s)) (sym i.1)
               ((bind_from old (kept_from old (Idle i.0) (still_idle i.0) h) (λ vs. call_idle i.0 vs)).at s g i.2);
         }
 
-        link_behind : (optional : Bool) (r : Reference) → LeavesFrom old (RefersToIdle r) (λ o s. Readable (chained o)) (callee_by x r >>= λ c. call_link optional c arguments x)
+        link_behind : (optional : Bool) (r : Reference) → LeavesFrom old (RefersToIdle r) (λ o s. Readable (chained o)) (callee_by (lone x) r >>= λ c. call_link optional c arguments (lone x))
         link_behind optional r = record {
-          at = λ s g i. subst (λ z. FollowsIn old (λ o t. Readable (chained o)) ((callee_by x z >>= λ c. call_link optional c arguments x) s)) (sym i.1)
+          at = λ s g i. subst (λ z. FollowsIn old (λ o t. Readable (chained o)) ((callee_by (lone x) z >>= λ c. call_link optional c arguments (lone x)) s)) (sym i.1)
               ((when_from old (optional && false) (give_from old None (λ t j. tt))
               (bind_from old (kept_from old (Idle i.0) (still_idle i.0) h) (λ vs. bind_from old (call_idle i.0 vs) (λ v. give_from old (Some (ToValue v)) (λ t j. tt))))).at s g i.2);
         }
 
-        either_call : (b : Bool) (m k : Meaning) → Leaves old (call_by m.is_super m arguments x) → Leaves old (call_by k.is_super k arguments x) → Leaves old (call_by (cond b m k).is_super (cond b m k) arguments x)
+        either_call : (b : Bool) (m k : Meaning) → Leaves old (call_by m.is_super m arguments (lone x)) → Leaves old (call_by k.is_super k arguments (lone x)) → Leaves old (call_by (cond b m k).is_super (cond b m k) arguments (lone x))
         either_call true m k hm hk = hm
         either_call false m k hm hk = hk
 
         function_call : (n : Node) (k : Kind) (cs : List Node) → (out-Node n).children ≡ cs → is_function_expression k ≡ true → passes_at is_harmless 1 n ≡ true
-            → Leaves old (call_by (meaning_by n k (map meaning cs)).is_super (meaning_by n k (map meaning cs)) arguments x)
+            → Leaves old (call_by (meaning_by n k (map meaning cs)).is_super (meaning_by n k (map meaning cs)) arguments (lone x))
         function_call n kind.FnExpr (name ∷ function ∷ []) shape is idle =
             either_call (has_no_effect kind.FnExpr (meaning name ∷ meaning function ∷ [])) (no_effect n) (role_by n kind.FnExpr (meaning name ∷ meaning function ∷ [])) (outside_leaves old)
             (leaves_of old (bind_from old (value_idle (meaning name).names function (passes_second is_harmless n name function [] shape idle)) call_behind))
@@ -303,13 +304,13 @@ module _ (old : State) where
         function_call n k cs shape is idle = absurd (cc)
 
         -- a call of such an expression
-        pub call_function_leaves : (n : Node) → is_function_expression (out-Node n).kind ≡ true → passes_at is_harmless 1 n ≡ true → Leaves old (call_by (meaning n).is_super (meaning n) arguments x)
+        pub call_function_leaves : (n : Node) → is_function_expression (out-Node n).kind ≡ true → passes_at is_harmless 1 n ≡ true → Leaves old (call_by (meaning n).is_super (meaning n) arguments (lone x))
         call_function_leaves n is idle =
-            subst (λ m. Leaves old (call_by m.is_super m arguments x)) (sym (meaning_out n)) (function_call n (out-Node n).kind (out-Node n).children refl is idle)
+            subst (λ m. Leaves old (call_by m.is_super m arguments (lone x))) (sym (meaning_out n)) (function_call n (out-Node n).kind (out-Node n).children refl is idle)
 
         module _ (optional : Bool) where
           abbrev LinksWell : Meaning → Type 0
-          LinksWell m = LeavesBy old (λ o. Readable (chained o)) (m.chain x >>= λ o. continued o (λ r. callee_by x r >>= λ c. call_link optional c arguments x))
+          LinksWell m = LeavesBy old (λ o. Readable (chained o)) (m.chain (lone x) >>= λ o. continued o (λ r. callee_by (lone x) r >>= λ c. call_link optional c arguments (lone x)))
 
           either_link : (b : Bool) (m k : Meaning) → LinksWell m → LinksWell k → LinksWell (cond b m k)
           either_link true m k hm hk = hm
@@ -318,7 +319,7 @@ module _ (old : State) where
           function_link : (n : Node) (k : Kind) (cs : List Node) → (out-Node n).children ≡ cs → is_function_expression k ≡ true → passes_at is_harmless 1 n ≡ true → LinksWell (meaning_by n k (map meaning cs))
           function_link n kind.FnExpr (name ∷ function ∷ []) shape is idle =
               either_link (has_no_effect kind.FnExpr (meaning name ∷ meaning function ∷ [])) (no_effect n) (role_by n kind.FnExpr (meaning name ∷ meaning function ∷ [])) (outside_leaves old)
-              (some_leaves old (λ o. Readable (chained o)) (function_value (meaning name).names (meaning function) x >>= λ v. give (ToValue v)) (λ r. callee_by x r >>= λ c. call_link optional c arguments x)
+              (some_leaves old (λ o. Readable (chained o)) (function_value (meaning name).names (meaning function) (lone x) >>= λ v. give (ToValue v)) (λ r. callee_by (lone x) r >>= λ c. call_link optional c arguments (lone x))
               (leaves_by_of old (bind_from old (value_idle (meaning name).names function (passes_second is_harmless n name function [] shape idle)) (link_behind optional))))
           function_link n kind.FnExpr cs shape is idle = outside_leaves old
           function_link n k cs shape is idle = absurd (cc)

@@ -37,6 +37,7 @@ use Rattle.ecma_runs.specs.Operators.{text_from}
 use Rattle.ecma_runs.specs.Expressions.{all_elements}
 use Rattle.ecma_runs.specs.Evaluation.{meaning_by, meaning}
 use Rattle.ecma_runs.proofs.Layer.{meaning_out}
+use Rattle.ecma_judge_runs.proofs.Lone.{lone}
 use Rattle.ecma_judge_runs.specs.InState.{adds_nothing, with_commas, none_left, empty_text, own_text, array_text, HaveTextsIn, HasArrayText}
 use Rattle.ecma_judge_runs.specs.Known.{HasTruth, HasText, HasType, Marks, marks, marks_step, is_valued, is_valued_by, is_of_type, declares_no_global}
 use Rattle.ecma_judge_runs.proofs.Both.{both_true}
@@ -263,11 +264,11 @@ item_no_list MaybeMany s kind.List h = absurd (untrue (sym (never_list s) ∙ h)
 item_no_list Holes s kind.List h = absurd (untrue (sym (never_list s) ∙ h))
 item_no_list c s k h = refl
 
-module _ (ctx : ExprCtx) (x : ExecutionContext) (apart : declares_no_global ctx x.scope ≡ true) (steadies : (n : Node) → Steady ctx (IsSorted ctx x) x n) where
+module _ (ctx : ExprCtx) (x : ExecutionContext) (apart : declares_no_global ctx x.scope ≡ true) (steadies : (n : Node) → Steady ctx (IsSorted ctx (lone x)) (lone x) n) where
   record Texted (n : Node) : Type 0 where
-    pub value : IsSorted ctx x n → is_list (out-Node n).kind ≡ false → (t : List ℕ) → (judged ctx n).text ≡ Known t → Settles (IsText ctx n t) ((meaning n).value x)
-    pub one : IsSorted ctx x n → is_list (out-Node n).kind ≡ false → (t : List ℕ) → (judged ctx n).element ≡ Known t → Settles (λ es s. OneText s es t) ((meaning n).elements x)
-    pub several : IsSorted ctx x n → is_list (out-Node n).kind ≡ true → (t : List ℕ) → (judged ctx n).text ≡ Known t → Settles (λ es s. JoinedTexts s es [] t) ((meaning n).elements x)
+    pub value : IsSorted ctx (lone x) n → is_list (out-Node n).kind ≡ false → (t : List ℕ) → (judged ctx n).text ≡ Known t → Settles (IsText ctx n t) ((meaning n).value (lone x))
+    pub one : IsSorted ctx (lone x) n → is_list (out-Node n).kind ≡ false → (t : List ℕ) → (judged ctx n).element ≡ Known t → Settles (λ es s. OneText s es t) ((meaning n).elements (lone x))
+    pub several : IsSorted ctx (lone x) n → is_list (out-Node n).kind ≡ true → (t : List ℕ) → (judged ctx n).text ≡ Known t → Settles (λ es s. JoinedTexts s es [] t) ((meaning n).elements (lone x))
 
   abbrev TextedNode : Type 0
   TextedNode = (n : Node) × Texted n
@@ -276,7 +277,7 @@ module _ (ctx : ExprCtx) (x : ExecutionContext) (apart : declares_no_global ctx 
   nodes ns = map (λ e. e.0) ns
 
   -- a node of this kind, with these children
-  module _ (n : Node) (h : IsSorted ctx x n) (k : Kind) (is : (out-Node n).kind ≡ k) (ns : List TextedNode) (same : nodes ns ≡ (out-Node n).children) where
+  module _ (n : Node) (h : IsSorted ctx (lone x) n) (k : Kind) (is : (out-Node n).kind ≡ k) (ns : List TextedNode) (same : nodes ns ≡ (out-Node n).children) where
     abbrev own : Purity
     own = purity_of (judged ctx n).effects
 
@@ -298,22 +299,22 @@ module _ (ctx : ExprCtx) (x : ExecutionContext) (apart : declares_no_global ctx 
     nothing_here : nothing_in ctx n ≡ is_nothing_by ctx own k
     nothing_here = ap (λ l. is_nothing_by ctx own l) is
 
-    below : is_parted k ≡ true → (all_have_shapes (child_shapes k h.shape (length (nodes ns))) (map has_shape (nodes ns)) ≡ true) × (all_told ctx x (nodes ns) ≡ true)
+    below : is_parted k ≡ true → (all_have_shapes (child_shapes k h.shape (length (nodes ns))) (map has_shape (nodes ns)) ≡ true) × (all_told ctx (lone x) (nodes ns) ≡ true)
     below p =
-        let b = sorted_below ctx x n h (subst (λ l. is_parted l ≡ true) (sym is) p) in (
+        let b = sorted_below ctx (lone x) n h (subst (λ l. is_parted l ≡ true) (sym is) p) in (
           subst (λ l. all_have_shapes (child_shapes k h.shape (length l)) (map has_shape l) ≡ true) (sym same)
               (subst (λ l. all_have_shapes (child_shapes l h.shape (length (out-Node n).children)) (map has_shape (out-Node n).children) ≡ true) is b.0),
-          subst (λ l. all_told ctx x l ≡ true) (sym same) b.1,
+          subst (λ l. all_told ctx (lone x) l ≡ true) (sym same) b.1,
         )
 
-    plain_value : is_plain k ≡ true → (t : List ℕ) → (judged ctx n).text ≡ Known t → Settles (IsText ctx n t) ((meaning n).value x)
+    plain_value : is_plain k ≡ true → (t : List ℕ) → (judged ctx n).text ≡ Known t → Settles (IsText ctx n t) ((meaning n).value (lone x))
     plain_value p t known =
         weaker_settles (λ v s j. inl (subst (Plain v t) (sym nothing_here)
         (plain ctx own n kids t k p (sym text_here ∙ known) v (subst (λ z. HasText z v) known j.text) (subst (λ z. HasType z v) type_here j.type))))
-        (settled (λ old. ((steadies n).text h t known old).0) ((valued ctx false x (λ f. absurd (untrue f)) apart n).value (plain_marks n (subst (λ l. is_plain l ≡ true) (sym is) p))))
+        (settled (λ old. ((steadies n).text h t known old).0) ((valued ctx false (lone x) (λ f. absurd (untrue f)) apart n).value (plain_marks n (subst (λ l. is_plain l ≡ true) (sym is) p))))
 
-  bang_value : (n : Node) (h : IsSorted ctx x n) (is : (out-Node n).kind ≡ kind.UnaryExpr operator.Bang) (ns : List TextedNode) (same : nodes ns ≡ (out-Node n).children) (t : List ℕ) → (judged ctx n).text ≡ Known t
-      → Settles (IsText ctx n t) ((meaning n).value x)
+  bang_value : (n : Node) (h : IsSorted ctx (lone x) n) (is : (out-Node n).kind ≡ kind.UnaryExpr operator.Bang) (ns : List TextedNode) (same : nodes ns ≡ (out-Node n).children) (t : List ℕ) → (judged ctx n).text ≡ Known t
+      → Settles (IsText ctx n t) ((meaning n).value (lone x))
   unfolding text_by truth_by type_by is_nothing_by
   bang_value n h is ns same t known =
       let k = kind.UnaryExpr operator.Bang in
@@ -324,20 +325,20 @@ module _ (ctx : ExprCtx) (x : ExecutionContext) (apart : declares_no_global ctx 
       (b.1 v (subst (λ (z : Purity × KnownOr Bool). HasTruth z.1 v) (truth_here n h k is ns same) g.0) (subst (λ z. HasType z v) (type_here n h k is ns same) g.1))))
       (settled told.leaves told.gives)
 
-  array_value : (n : Node) (h : IsSorted ctx x n) (is : (out-Node n).kind ≡ kind.ArrayLit) (ns : List TextedNode) (same : nodes ns ≡ (out-Node n).children) (t : List ℕ) → (judged ctx n).text ≡ Known t
-      → Settles (λ v s. HasArrayText s v t) ((meaning n).value x)
+  array_value : (n : Node) (h : IsSorted ctx (lone x) n) (is : (out-Node n).kind ≡ kind.ArrayLit) (ns : List TextedNode) (same : nodes ns ≡ (out-Node n).children) (t : List ℕ) → (judged ctx n).text ≡ Known t
+      → Settles (λ v s. HasArrayText s v t) ((meaning n).value (lone x))
   unfolding text_by
   array_value n h is [] same t known = absurd (unknown_known refl (sym (text_here n h kind.ArrayLit is [] same) ∙ known))
   array_value n h is (e ∷ []) same t known =
       let b = below n h kind.ArrayLit is (e ∷ []) same refl in
       let has = (both_true (has_shape e.0 (with_holes sort.ExprOrSpread)) true b.0).0 in
-      let sorted : IsSorted ctx x e.0 = record { shape = with_holes sort.ExprOrSpread; has = has; told = (both_true (are_told ctx x.known.declared e.0) true b.1).0 } in
-      subst (λ m. Settles (λ v s. HasArrayText s v t) (m.value x)) (sym (means n h kind.ArrayLit is (e ∷ []) same))
+      let sorted : IsSorted ctx (lone x) e.0 = record { shape = with_holes sort.ExprOrSpread; has = has; told = (both_true (are_told ctx x.known.declared e.0) true b.1).0 } in
+      subst (λ m. Settles (λ v s. HasArrayText s v t) (m.value (lone x))) (sym (means n h kind.ArrayLit is (e ∷ []) same))
       (bind_settles (e.1.several sorted (shaped e.0 (with_holes sort.ExprOrSpread) has).0 t (sym (text_here n h kind.ArrayLit is (e ∷ []) same) ∙ known)) (λ es. array_settles es t))
-  array_value n h is (e ∷ f ∷ ns) same t known = subst (λ m. Settles (λ v s. HasArrayText s v t) (m.value x)) (sym (means n h kind.ArrayLit is (e ∷ f ∷ ns) same)) outside_settles
+  array_value n h is (e ∷ f ∷ ns) same t known = subst (λ m. Settles (λ v s. HasArrayText s v t) (m.value (lone x))) (sym (means n h kind.ArrayLit is (e ∷ f ∷ ns) same)) outside_settles
 
-  value_at : (n : Node) (h : IsSorted ctx x n) (k : Kind) (is : (out-Node n).kind ≡ k) (ns : List TextedNode) (same : nodes ns ≡ (out-Node n).children) → is_element k ≡ true → (t : List ℕ) → (judged ctx n).text ≡ Known t
-      → Settles (IsText ctx n t) ((meaning n).value x)
+  value_at : (n : Node) (h : IsSorted ctx (lone x) n) (k : Kind) (is : (out-Node n).kind ≡ k) (ns : List TextedNode) (same : nodes ns ≡ (out-Node n).children) → is_element k ≡ true → (t : List ℕ) → (judged ctx n).text ≡ Known t
+      → Settles (IsText ctx n t) ((meaning n).value (lone x))
   unfolding text_by is_nothing_by
   value_at n h kind.ArrayLit is ns same e t known = weaker_settles (λ v s a. inr (a, nothing_here n h kind.ArrayLit is ns same)) (array_value n h is ns same t known)
   value_at n h (kind.UnaryExpr operator.Bang) is ns same e t known = bang_value n h is ns same t known
@@ -346,30 +347,30 @@ module _ (ctx : ExprCtx) (x : ExecutionContext) (apart : declares_no_global ctx 
   value_at n h k is ns same e t known = plain_value n h k is ns same e t known
 
   -- an element that is there
-  element_at : (n : Node) (h : IsSorted ctx x n) (k : Kind) (is : (out-Node n).kind ≡ k) (ns : List TextedNode) (same : nodes ns ≡ (out-Node n).children) → is_list k ≡ false → (u t : List ℕ) → (judged ctx n).text ≡ Known u
-      → (if nothing_in ctx n then Known [] else (judged ctx n).text) ≡ Known t → Settles (λ es s. OneText s es t) ((meaning n).elements x)
+  element_at : (n : Node) (h : IsSorted ctx (lone x) n) (k : Kind) (is : (out-Node n).kind ≡ k) (ns : List TextedNode) (same : nodes ns ≡ (out-Node n).children) → is_list k ≡ false → (u t : List ℕ) → (judged ctx n).text ≡ Known u
+      → (if nothing_in ctx n then Known [] else (judged ctx n).text) ≡ Known t → Settles (λ es s. OneText s es t) ((meaning n).elements (lone x))
   element_at n h k is ns same single u t text known =
       let e = element_kind ctx (own n h k is ns same) k (kids n h k is ns same) u (sym (text_here n h k is ns same) ∙ text) single in
       let m = means n h k is ns same in
       subst (λ r. Settles (λ es s. OneText s es t) r)
-      (ap (λ (z : Meaning). z.value x >>= λ v. give (Some v ∷ [])) m ∙ sym (element_run n k (map meaning (nodes ns)) x e) ∙ ap (λ (z : Meaning). z.elements x) (sym m))
+      (ap (λ (z : Meaning). z.value (lone x) >>= λ v. give (Some v ∷ [])) m ∙ sym (element_run n k (map meaning (nodes ns)) (lone x) e) ∙ ap (λ (z : Meaning). z.elements (lone x)) (sym m))
       (bind_settles (value_at n h k is ns same e u text)
       (λ v. give_settles (Some v ∷ []) (λ s p. element_of ctx n u t v s (subst (λ z. (if nothing_in ctx n then Known [] else z) ≡ Known t) text known) p)))
 
   -- whether it adds nothing is one or the other
-  by_nothing : (n : Node) (h : IsSorted ctx x n) (k : Kind) (is : (out-Node n).kind ≡ k) (ns : List TextedNode) (same : nodes ns ≡ (out-Node n).children) → is_list k ≡ false → is_absent k ≡ false → (t : List ℕ)
-      → (b : Bool) → nothing_in ctx n ≡ b → (if nothing_in ctx n then Known [] else (judged ctx n).text) ≡ Known t → Settles (λ es s. OneText s es t) ((meaning n).elements x)
+  by_nothing : (n : Node) (h : IsSorted ctx (lone x) n) (k : Kind) (is : (out-Node n).kind ≡ k) (ns : List TextedNode) (same : nodes ns ≡ (out-Node n).children) → is_list k ≡ false → is_absent k ≡ false → (t : List ℕ)
+      → (b : Bool) → nothing_in ctx n ≡ b → (if nothing_in ctx n then Known [] else (judged ctx n).text) ≡ Known t → Settles (λ es s. OneText s es t) ((meaning n).elements (lone x))
   by_nothing n h k is ns same single there t true e known =
       let u = nothing_known ctx (own n h k is ns same) k (kids n h k is ns same) (sym (nothing_here n h k is ns same) ∙ e) there in
       element_at n h k is ns same single u.0 t (text_here n h k is ns same ∙ u.1) known
   by_nothing n h k is ns same single there t false e known =
       element_at n h k is ns same single t t (subst (λ b. (if b then Known [] else (judged ctx n).text) ≡ Known t) e known) known
 
-  one_at : (n : Node) (h : IsSorted ctx x n) (k : Kind) (is : (out-Node n).kind ≡ k) (ns : List TextedNode) (same : nodes ns ≡ (out-Node n).children) → is_list k ≡ false → (t : List ℕ)
-      → (if nothing_in ctx n then Known [] else (judged ctx n).text) ≡ Known t → Settles (λ es s. OneText s es t) ((meaning n).elements x)
+  one_at : (n : Node) (h : IsSorted ctx (lone x) n) (k : Kind) (is : (out-Node n).kind ≡ k) (ns : List TextedNode) (same : nodes ns ≡ (out-Node n).children) → is_list k ≡ false → (t : List ℕ)
+      → (if nothing_in ctx n then Known [] else (judged ctx n).text) ≡ Known t → Settles (λ es s. OneText s es t) ((meaning n).elements (lone x))
   unfolding is_nothing_by
   one_at n h kind.Absent is ns same single t known =
-      subst (λ m. Settles (λ es s. OneText s es t) (m.elements x)) (sym (means n h kind.Absent is ns same))
+      subst (λ m. Settles (λ es s. OneText s es t) (m.elements (lone x))) (sym (means n h kind.Absent is ns same))
       (give_settles (None ∷ []) (λ s r. record {
         element = None;
         is = refl;
@@ -379,28 +380,28 @@ module _ (ctx : ExprCtx) (x : ExecutionContext) (apart : declares_no_global ctx 
   one_at n h k is ns same single t known = by_nothing n h k is ns same single refl t (nothing_in ctx n) refl known
 
   -- the elements of an array literal
-  list_settles : (s : Shape) (ns : List TextedNode) → all_have_shapes (replicate (length (nodes ns)) (item_shape s)) (map has_shape (nodes ns)) ≡ true → all_told ctx x (nodes ns) ≡ true → (front t : List ℕ)
-      → joined_behind front (map (judged ctx) (nodes ns)) ≡ Known t → Settles (λ es s. JoinedTexts s es front t) (all_elements (map meaning (nodes ns)) x)
+  list_settles : (s : Shape) (ns : List TextedNode) → all_have_shapes (replicate (length (nodes ns)) (item_shape s)) (map has_shape (nodes ns)) ≡ true → all_told ctx (lone x) (nodes ns) ≡ true → (front t : List ℕ)
+      → joined_behind front (map (judged ctx) (nodes ns)) ≡ Known t → Settles (λ es s. JoinedTexts s es front t) (all_elements (map meaning (nodes ns)) (lone x))
   list_settles s [] shapes told front t is = give_settles [] (λ r p. record { texts = []; have = none_left; joined = sym (known_same is) })
   list_settles s (n ∷ ns) shapes told front t is =
       let a = both_true (has_shape n.0 (item_shape s)) (all_have_shapes (replicate (length (nodes ns)) (item_shape s)) (map has_shape (nodes ns))) shapes in
-      let b = both_true (are_told ctx x.known.declared n.0) (all_told ctx x (nodes ns)) told in
+      let b = both_true (are_told ctx x.known.declared n.0) (all_told ctx (lone x) (nodes ns)) told in
       let f = followed_parts (followed_by (Known front) (judged ctx n.0).element) (joined_behind (44 ∷ []) (map (judged ctx) (nodes ns))) t is in
       let g = followed_parts (Known front) (judged ctx n.0).element f.first f.is_first in
-      let sorted : IsSorted ctx x n.0 = record { shape = item_shape s; has = a.0; told = b.0 } in
+      let sorted : IsSorted ctx (lone x) n.0 = record { shape = item_shape s; has = a.0; told = b.0 } in
       let single = item_no_list s.count s.sort (out-Node n.0).kind (shaped n.0 (item_shape s) a.0).0 in
       let whole : (front ++ g.second) ++ f.second ≡ t = ap (λ l. (l ++ g.second) ++ f.second) (known_same g.is_first) ∙ ap (λ l. l ++ f.second) (sym g.is) ∙ sym f.is in
-      subst (λ l. Settles (λ es r. JoinedTexts r es front l) (all_elements (map meaning (nodes (n ∷ ns))) x)) whole
+      subst (λ l. Settles (λ es r. JoinedTexts r es front l) (all_elements (map meaning (nodes (n ∷ ns))) (lone x))) whole
       (bind_settles (n.1.one sorted single g.second g.is_second) (λ vs.
       bind_settles (beside_settles (one_still g.second vs) (list_settles s ns a.1 b.1 (44 ∷ []) f.second f.is_second)) (λ ws.
       give_settles (vs ++ ws) (λ r p. joined_more front g.second f.second p.0 p.1))))
 
-  several_at : (n : Node) (h : IsSorted ctx x n) (k : Kind) (is : (out-Node n).kind ≡ k) (ns : List TextedNode) (same : nodes ns ≡ (out-Node n).children) → is_list k ≡ true → (t : List ℕ) → (judged ctx n).text ≡ Known t
-      → Settles (λ es s. JoinedTexts s es [] t) ((meaning n).elements x)
+  several_at : (n : Node) (h : IsSorted ctx (lone x) n) (k : Kind) (is : (out-Node n).kind ≡ k) (ns : List TextedNode) (same : nodes ns ≡ (out-Node n).children) → is_list k ≡ true → (t : List ℕ) → (judged ctx n).text ≡ Known t
+      → Settles (λ es s. JoinedTexts s es [] t) ((meaning n).elements (lone x))
   unfolding text_by
   several_at n h kind.List is ns same listed t known =
       let b = below n h kind.List is ns same refl in
-      subst (λ m. Settles (λ es s. JoinedTexts s es [] t) (m.elements x)) (sym (means n h kind.List is ns same))
+      subst (λ m. Settles (λ es s. JoinedTexts s es [] t) (m.elements (lone x))) (sym (means n h kind.List is ns same))
       (list_settles h.shape ns b.0 b.1 [] t (sym (text_here n h kind.List is ns same) ∙ known))
   several_at n h k is ns same listed t known = absurd (untrue listed)
 
@@ -416,7 +417,7 @@ module _ (ctx : ExprCtx) (x : ExecutionContext) (apart : declares_no_global ctx 
   texted = ind-Node Texted (λ parts y is. texted_by (roll-Node parts) y.children (ap (λ z. z.children) is ∙ sym (ap (λ (z : Node-F Node). z.children) (out-roll-Node parts))))
 
   -- what has a known text leaves all as it was, and its value has that text in the state behind it
-  pub known_text : (n : Node) → IsSorted ctx x n → is_list (out-Node n).kind ≡ false → (t : List ℕ) → (judged ctx n).text ≡ Known t → Settles (IsText ctx n t) ((meaning n).value x)
+  pub known_text : (n : Node) → IsSorted ctx (lone x) n → is_list (out-Node n).kind ≡ false → (t : List ℕ) → (judged ctx n).text ≡ Known t → Settles (IsText ctx n t) ((meaning n).value (lone x))
   known_text n h single t known = (texted n).value h single t known
 
   -- each child, with what is shown of it
@@ -428,5 +429,5 @@ module _ (ctx : ExprCtx) (x : ExecutionContext) (apart : declares_no_global ctx 
   same_all [] = refl
   same_all (n ∷ ns) = ap (λ l. n ∷ l) (same_all ns)
 
-  pub known_array : (n : Node) → IsSorted ctx x n → (out-Node n).kind ≡ kind.ArrayLit → (t : List ℕ) → (judged ctx n).text ≡ Known t → Settles (λ v s. HasArrayText s v t) ((meaning n).value x)
+  pub known_array : (n : Node) → IsSorted ctx (lone x) n → (out-Node n).kind ≡ kind.ArrayLit → (t : List ℕ) → (judged ctx n).text ≡ Known t → Settles (λ v s. HasArrayText s v t) ((meaning n).value (lone x))
   known_array n h is t known = array_value n h is (texted_all (out-Node n).children) (same_all (out-Node n).children) t known

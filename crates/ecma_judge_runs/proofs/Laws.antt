@@ -11,14 +11,15 @@ use Rattle.ecma_judge.specs.PureCallees.{pure_callee_by}
 use Rattle.ecma_judge.proofs.Judging.{effects-out, callee-out}
 use Rattle.ecma_runs.specs.Values.{Value}
 use Rattle.ecma_runs.specs.State.{State}
-use Rattle.ecma_runs.specs.Run.{Ended, TurnsSpent, Run}
+use Rattle.ecma_runs.specs.Run.{Done, Ended, TurnsSpent, Run}
 use Rattle.ecma_runs.specs.Meaning.{Invocation, ExecutionContext, Meaning}
 use Rattle.ecma_runs.specs.Expressions.{call_by}
 use Rattle.ecma_runs.specs.Evaluation.{meaning_by, meaning, apply, calls}
 use Rattle.ecma_runs.specs.Laws.{state_behind}
 use Rattle.ecma_runs.proofs.Layer.{meaning_out}
 use Rattle.ecma_judge_runs.specs.Still.{Still}
-use Rattle.ecma_judge_runs.specs.Called.{is_function_expression, declares_no_loose, called, Assumed, MayBeCalled}
+use Rattle.ecma_judge_runs.proofs.Lone.{lone, to_lone, from_lone}
+use Rattle.ecma_judge_runs.specs.Called.{KnowsNoEnums, is_function_expression, declares_no_loose, called, AppliesFunctions, Assumed, MayBeCalled}
 use Rattle.ecma_judge_runs.specs.Taken.{Taken, is_taken_by, taken}
 use Rattle.ecma_judge_runs.specs.Known.{IsAsJudged}
 use Rattle.ecma_judge_runs.specs.Laws.{WhatHasNoEffectsIsStill, ClassesWithoutEffectsAreStill, CallsOfPureCalleesAreStill, WhatIsKnownIsSo, WhatIsPureIsStill, WhatIsAPureNumberIsStill, WhatHasAKnownTextIsStill, PureCallsAreStill, PureCalleesAreStill, ContextsApplyFunctions}
@@ -37,36 +38,50 @@ use Rattle.ecma_judge_runs.proofs.Asking.{IsTaken, taken_asks}
 pub still_behind : {A : Type 0} (m : Run A) (s : State) → Leaves s m → Still s (state_behind (m s))
 still_behind m s h = behind s (λ a. Unit {0}) (m s) (h.at s (still_itself s))
 
+-- calls of the program, where nothing is known of enums
+calls_alone : (sure : Assumed) (x : ExecutionContext) → KnowsNoEnums x → (sure.calls ≡ true → AppliesFunctions x) → sure.calls ≡ true → AppliesFunctions (lone x)
+calls_alone sure x bare applies is = to_lone x bare AppliesFunctions (applies is)
+
 pub what_has_no_effects_is_still : WhatHasNoEffectsIsStill
-what_has_no_effects_is_still ctx sure e x s off so whole none = still_behind ((meaning e).value x) s (((claim ctx sure off x so.calls e).quiet none whole).value s x.scope so.globals)
+what_has_no_effects_is_still ctx sure e x s bare off so whole none =
+    from_lone x bare (λ z. Still s (state_behind ((meaning e).value z s))) (still_behind ((meaning e).value (lone x)) s (((claim ctx sure off x (calls_alone sure x bare so.calls) e).quiet none whole).value s x.scope so.globals))
 
 pub classes_without_effects_are_still : ClassesWithoutEffectsAreStill
-classes_without_effects_are_still ctx sure class names x s off so named whole none =
-    still_behind ((meaning class).class_made names x) s (((claim ctx sure off x so.calls class).quiet none whole).class_made names named s x.scope so.globals)
+classes_without_effects_are_still ctx sure class names x s bare off so named whole none =
+    from_lone x bare (λ z. Still s (state_behind ((meaning class).class_made names z s)))
+    (still_behind ((meaning class).class_made names (lone x)) s (((claim ctx sure off x (calls_alone sure x bare so.calls) class).quiet none whole).class_made names named s x.scope so.globals))
 
 pub what_is_known_is_so : WhatIsKnownIsSo
-what_is_known_is_so ctx objects e x s t v known apart told done = gave_done (IsAsJudged (judged ctx e)) ((meaning e).value x s) v t done (((valued ctx objects x known apart e).value told).at s)
+what_is_known_is_so ctx objects e x s t v bare known apart told done =
+    gave_done (IsAsJudged (judged ctx e)) ((meaning e).value (lone x) s) v t (to_lone x bare (λ z. (meaning e).value z s ≡ Done v t) done) (((valued ctx objects x known apart e).value told).at s)
 
 pub what_is_pure_is_still : WhatIsPureIsStill
-what_is_pure_is_still ctx sure e x s off apart so whole pure = still_behind ((meaning e).value x) s (((steady ctx (IsTaken ctx sure x) x (taken_asks ctx sure off x apart so.globals so.calls) e).truth whole pure).leaves s)
+what_is_pure_is_still ctx sure e x s bare off apart so whole pure =
+    from_lone x bare (λ z. Still s (state_behind ((meaning e).value z s))) (still_behind ((meaning e).value (lone x)) s
+        (((steady ctx (IsTaken ctx sure (lone x)) x (taken_asks ctx sure off x apart so.globals (calls_alone sure x bare so.calls)) e).truth whole pure).leaves s))
 
 pub what_is_a_pure_number_is_still : WhatIsAPureNumberIsStill
-what_is_a_pure_number_is_still ctx sure e x s off apart so whole pure = still_behind ((meaning e).value x) s (((steady ctx (IsTaken ctx sure x) x (taken_asks ctx sure off x apart so.globals so.calls) e).number whole pure).leaves s)
+what_is_a_pure_number_is_still ctx sure e x s bare off apart so whole pure =
+    from_lone x bare (λ z. Still s (state_behind ((meaning e).value z s))) (still_behind ((meaning e).value (lone x)) s
+        (((steady ctx (IsTaken ctx sure (lone x)) x (taken_asks ctx sure off x apart so.globals (calls_alone sure x bare so.calls)) e).number whole pure).leaves s))
 
 pub what_has_a_known_text_is_still : WhatHasAKnownTextIsStill
-what_has_a_known_text_is_still ctx sure e x text s off apart so whole known = still_behind ((meaning e).value x) s ((steady ctx (IsTaken ctx sure x) x (taken_asks ctx sure off x apart so.globals so.calls) e).text whole text known s).0
+what_has_a_known_text_is_still ctx sure e x text s bare off apart so whole known =
+    from_lone x bare (λ z. Still s (state_behind ((meaning e).value z s))) (still_behind ((meaning e).value (lone x)) s
+        ((steady ctx (IsTaken ctx sure (lone x)) x (taken_asks ctx sure off x apart so.globals (calls_alone sure x bare so.calls)) e).text whole text known s).0)
 
 -- ---- pure callees
 
-called_leaves : (ctx : ExprCtx) (e : Node) (x : ExecutionContext) (arguments : List Value) (s : State) → declares_no_loose ctx x.scope ≡ true → MayBeCalled e x → (judged ctx e).pure_callee ≡ true
-    → (b : Bool) → is_function_expression (out-Node e).kind ≡ b → Leaves s (called (meaning e) arguments x)
+called_leaves : (ctx : ExprCtx) (e : Node) (x : ExecutionContext) (arguments : List Value) (s : State) → declares_no_loose ctx x.scope ≡ true → MayBeCalled e (lone x) → (judged ctx e).pure_callee ≡ true
+    → (b : Bool) → is_function_expression (out-Node e).kind ≡ b → Leaves s (called (meaning e) arguments (lone x))
 called_leaves ctx e x arguments s apart idle pure true is = let t = idle is in function_called_on s x t.1 arguments e is t.0
 called_leaves ctx e x arguments s apart idle pure false is =
-    subst (λ m. Leaves s (called m arguments x)) (sym (meaning_out e)) (call_on ctx s x arguments e (out-Node e).kind (out-Node e).children refl is (λ is'. apart) (sym (callee-out ctx e) ∙ pure))
+    subst (λ m. Leaves s (called m arguments (lone x))) (sym (meaning_out e)) (call_on ctx s x arguments e (out-Node e).kind (out-Node e).children refl is (λ is'. apart) (sym (callee-out ctx e) ∙ pure))
 
 pub calls_of_pure_callees_are_still : CallsOfPureCalleesAreStill
-calls_of_pure_callees_are_still ctx e x arguments s apart idle pure =
-    still_behind (called (meaning e) arguments x) s (called_leaves ctx e x arguments s apart idle pure (is_function_expression (out-Node e).kind) refl)
+calls_of_pure_callees_are_still ctx e x arguments s bare apart idle pure =
+    from_lone x bare (λ z. Still s (state_behind (called (meaning e) arguments z s)))
+    (still_behind (called (meaning e) arguments (lone x)) s (called_leaves ctx e x arguments s apart (to_lone x bare (λ z. MayBeCalled e z) idle) pure (is_function_expression (out-Node e).kind) refl))
 
 -- a function expression has no effects, whatever is safe
 
@@ -92,7 +107,7 @@ abbrev unsure : Assumed
 unsure = record { globals = false; calls = false }
 
 callee_leaves : (ctx : ExprCtx) (e : Node) (x : ExecutionContext) (s : State) → declares_no_loose ctx x.scope ≡ true → (judged ctx e).pure_callee ≡ true → (b : Bool) → is_function_expression (out-Node e).kind ≡ b
-    → Leaves s ((meaning e).value x)
+    → Leaves s ((meaning e).value (lone x))
 callee_leaves ctx e x s apart pure true is =
     ((claim (wary ctx) unsure refl x (λ h. absurd (cc)) e).quiet
     (effects-out (wary ctx) e ∙ function_none (wary ctx) e (out-Node e).kind (kids_of (wary ctx) e) is)
@@ -100,21 +115,24 @@ callee_leaves ctx e x s apart pure true is =
 callee_leaves ctx e x s apart pure false is = read_callee ctx s x e is (λ is'. apart) (sym (callee-out ctx e) ∙ pure)
 
 pub pure_callees_are_still : PureCalleesAreStill
-pure_callees_are_still ctx e x s apart pure = still_behind ((meaning e).value x) s (callee_leaves ctx e x s apart pure (is_function_expression (out-Node e).kind) refl)
+pure_callees_are_still ctx e x s bare apart pure =
+    from_lone x bare (λ z. Still s (state_behind ((meaning e).value z s))) (still_behind ((meaning e).value (lone x)) s (callee_leaves ctx e x s apart pure (is_function_expression (out-Node e).kind) refl))
 
-call_by_leaves : (ctx : ExprCtx) (callee : Node) (arguments : Meaning) (x : ExecutionContext) (s : State) → declares_no_loose ctx x.scope ≡ true → MayBeCalled callee x → (judged ctx callee).pure_callee ≡ true
-    → ((t : State) → Leaves t (arguments.arguments x)) → (b : Bool) → is_function_expression (out-Node callee).kind ≡ b → Leaves s (call_by (meaning callee).is_super (meaning callee) arguments x)
+call_by_leaves : (ctx : ExprCtx) (callee : Node) (arguments : Meaning) (x : ExecutionContext) (s : State) → declares_no_loose ctx x.scope ≡ true → MayBeCalled callee (lone x) → (judged ctx callee).pure_callee ≡ true
+    → ((t : State) → Leaves t (arguments.arguments (lone x))) → (b : Bool) → is_function_expression (out-Node callee).kind ≡ b → Leaves s (call_by (meaning callee).is_super (meaning callee) arguments (lone x))
 call_by_leaves ctx callee arguments x s apart idle pure h true is = let t = idle is in call_function_leaves s x t.1 arguments h callee is t.0
 call_by_leaves ctx callee arguments x s apart idle pure h false is = call_leaves ctx s x arguments (h s) callee is (λ is'. apart) (sym (callee-out ctx callee) ∙ pure)
 
 pub pure_calls_are_still : PureCallsAreStill
-pure_calls_are_still ctx sure e callee arguments types x s off apart applies is shape idle whole none =
+pure_calls_are_still ctx sure e callee arguments types x s bare off apart applies is shape idle whole none =
     let t = call_parts ctx e callee arguments types is shape none in
-    still_behind ((meaning e).value x) s
-    (subst (λ m. Leaves s (m.value x)) (sym (meaning_out e))
-    (subst (λ k. Leaves s ((meaning_by e k (map meaning (out-Node e).children)).value x)) (sym is)
-    (subst (λ cs. Leaves s ((meaning_by e kind.CallExpr (map meaning cs)).value x)) (sym shape)
-    (call_by_leaves ctx callee (meaning arguments) x s apart idle t.0 (λ u. ((claim ctx sure off x applies arguments).quiet t.1 whole).arguments u x.scope (λ g. apart)) (is_function_expression (out-Node callee).kind) refl))))
+    from_lone x bare (λ z. Still s (state_behind ((meaning e).value z s)))
+    (still_behind ((meaning e).value (lone x)) s
+    (subst (λ m. Leaves s (m.value (lone x))) (sym (meaning_out e))
+    (subst (λ k. Leaves s ((meaning_by e k (map meaning (out-Node e).children)).value (lone x))) (sym is)
+    (subst (λ cs. Leaves s ((meaning_by e kind.CallExpr (map meaning cs)).value (lone x))) (sym shape)
+    (call_by_leaves ctx callee (meaning arguments) x s apart (to_lone x bare (λ z. MayBeCalled callee z) idle) t.0
+    (λ u. ((claim ctx sure off x (calls_alone sure x bare applies) arguments).quiet t.1 whole).arguments u x.scope (λ g. apart)) (is_function_expression (out-Node callee).kind) refl)))))
 
 -- ---- contexts
 

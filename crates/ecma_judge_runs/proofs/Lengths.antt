@@ -18,6 +18,7 @@ use Rattle.ecma_runs.specs.Members.{got}
 use Rattle.ecma_runs.specs.Objects.{no_ancestry, property_above, element_entries, new_array}
 use Rattle.ecma_runs.specs.Expressions.{member_of}
 use Rattle.ecma_runs.proofs.Layer.{meaning_out}
+use Rattle.ecma_judge_runs.proofs.Lone.{lone}
 use Rattle.ecma_judge_runs.proofs.Fronts.{last_at}
 use Rattle.ecma_judge_runs.specs.Known.{HasType}
 use Rattle.ecma_judge_runs.proofs.Giving.{Gave, GivesBy, bind_gives, then_gives, give_gives, outside_gives, when_gives}
@@ -82,55 +83,55 @@ abbrev IsNumber : Value → Type 0
 IsNumber v = HasType (Known js_type.Num) v
 
 module _ (x : ExecutionContext) where
-  length_gave : (place : ℕ) (s : State) → IsArrayAt place s → GaveIn (λ v t. IsNumber v) (read x (ToMember (Own place) (codes "length")) s)
+  length_gave : (place : ℕ) (s : State) → IsArrayAt place s → GaveIn (λ v t. IsNumber v) (read (lone x) (ToMember (Own place) (codes "length")) s)
   length_gave place s h =
-      subst (λ z. GaveIn (λ v t. IsNumber v) (got x (Own place) (property_above s.objects (codes "length") no_ancestry (suc (length s.objects)) z) s)) (sym h.1) refl
+      subst (λ z. GaveIn (λ v t. IsNumber v) (got (lone x) (Own place) (property_above s.objects (codes "length") no_ancestry (suc (length s.objects)) z) s)) (sym h.1) refl
 
   array_gives : (elements : Run (List (Option Value))) (name : List ℕ) → name ≡ codes "length"
-      → GivesBy IsNumber ((((elements >>= λ es. new_array es >>= λ o. give (Own o)) >>= λ v. give (ToValue v)) >>= λ r. member_of x r (give name)) >>= λ r. read x r)
+      → GivesBy IsNumber ((((elements >>= λ es. new_array es >>= λ o. give (Own o)) >>= λ v. give (ToValue v)) >>= λ r. member_of (lone x) r (give name)) >>= λ r. read (lone x) r)
   array_gives elements name same =
-      subst (λ z. GivesBy IsNumber ((((elements >>= λ es. new_array es >>= λ o. give (Own o)) >>= λ v. give (ToValue v)) >>= λ r. member_of x r (give z)) >>= λ r. read x r)) (sym same)
+      subst (λ z. GivesBy IsNumber ((((elements >>= λ es. new_array es >>= λ o. give (Own o)) >>= λ v. give (ToValue v)) >>= λ r. member_of (lone x) r (give z)) >>= λ r. read (lone x) r)) (sym same)
       (gives_from IsNumber _
       (bind_from {P = λ r s. (o : ℕ) × (r ≡ ToMember (Own o) (codes "length")) × IsArrayAt o s}
       (bind_from {P = λ r s. (o : ℕ) × (r ≡ ToValue (Own o)) × IsArrayAt o s}
       (bind_from {P = λ v s. (o : ℕ) × (v ≡ Own o) × IsArrayAt o s}
       (bind_from (any_from elements) (λ es. record { at = λ s e. (length s.objects, refl, (es, last_at s.objects (array_of es))) }))
       (λ v. record { at = λ s h. (h.0, ap ToValue h.1, h.2) }))
-      (λ r. record { at = λ s h. subst (λ z. GaveIn (λ r s. (o : ℕ) × (r ≡ ToMember (Own o) (codes "length")) × IsArrayAt o s) (member_of x z (give (codes "length")) s)) (sym h.1) (h.0, refl, h.2) }))
-      (λ r. record { at = λ s h. subst (λ z. GaveIn (λ v t. IsNumber v) (read x z s)) (sym h.1) (length_gave h.0 s h.2) })))
+      (λ r. record { at = λ s h. subst (λ z. GaveIn (λ r s. (o : ℕ) × (r ≡ ToMember (Own o) (codes "length")) × IsArrayAt o s) (member_of (lone x) z (give (codes "length")) s)) (sym h.1) (h.0, refl, h.2) }))
+      (λ r. record { at = λ s h. subst (λ z. GaveIn (λ v t. IsNumber v) (read (lone x) z s)) (sym h.1) (length_gave h.0 s h.2) })))
 
   -- ---- texts: all else is open
 
-  text_member_gives : (text key : List ℕ) → GivesBy IsNumber (read x (ToMember (Text text) key))
+  text_member_gives : (text key : List ℕ) → GivesBy IsNumber (read (lone x) (ToMember (Text text) key))
   text_member_gives text key = when_gives (bytes_eq key (codes "length")) (then_gives (given (length_of text)) (λ n. give_gives (Number n) refl)) outside_gives
 
-  text_gives : (text : List ℕ) (key : Run (List ℕ)) → GivesBy IsNumber (((give (Text text) >>= λ v. give (ToValue v)) >>= λ r. member_of x r key) >>= λ r. read x r)
+  text_gives : (text : List ℕ) (key : Run (List ℕ)) → GivesBy IsNumber (((give (Text text) >>= λ v. give (ToValue v)) >>= λ r. member_of (lone x) r key) >>= λ r. read (lone x) r)
   text_gives text key =
       bind_gives {P = λ r. (k : List ℕ) × (r ≡ ToMember (Text text) k)} (then_gives key (λ k. give_gives (ToMember (Text text) k) (k, refl)))
-      (λ r p. subst (λ z. GivesBy IsNumber (read x z)) (sym p.1) (text_member_gives text p.0))
+      (λ r p. subst (λ z. GivesBy IsNumber (read (lone x) z)) (sym p.1) (text_member_gives text p.0))
 
   -- ---- by what the object and the key are
 
-  no_member : (r : Reference) → GivesBy (λ z. ⊥) (member_of x r outside)
+  no_member : (r : Reference) → GivesBy (λ z. ⊥) (member_of (lone x) r outside)
   no_member ToImportMeta = outside_gives
-  no_member r = then_gives (read_object x r) (λ o. outside_gives)
+  no_member r = then_gives (read_object (lone x) r) (λ o. outside_gives)
 
-  no_key : (object : Run Reference) → GivesBy IsNumber ((object >>= λ r. member_of x r outside) >>= λ r. read x r)
+  no_key : (object : Run Reference) → GivesBy IsNumber ((object >>= λ r. member_of (lone x) r outside) >>= λ r. read (lone x) r)
   no_key object = bind_gives {P = λ r. ⊥} (then_gives object (λ r. no_member r)) (λ r none. absurd none)
 
   kinds_give : (object key : Node) (k l : Kind) (os ks : List Node) → has_length k ≡ true → is_length l ≡ true
-      → GivesBy IsNumber (((meaning_by object k (map meaning os)).reference x >>= λ r. member_of x r ((meaning_by key l (map meaning ks)).key x)) >>= λ r. read x r)
-  kinds_give object key (kind.Str text raw) l [] ks h is = text_gives text ((meaning_by key l (map meaning ks)).key x)
+      → GivesBy IsNumber (((meaning_by object k (map meaning os)).reference (lone x) >>= λ r. member_of (lone x) r ((meaning_by key l (map meaning ks)).key (lone x))) >>= λ r. read (lone x) r)
+  kinds_give object key (kind.Str text raw) l [] ks h is = text_gives text ((meaning_by key l (map meaning ks)).key (lone x))
   kinds_give object key (kind.Str text raw) l (c ∷ cs) ks h is = outside_gives
-  kinds_give object key kind.ArrayLit (kind.IdentName name) (e ∷ []) [] h is = array_gives ((meaning e).elements x) name ((bytes_eq-Decides name (codes "length")).0 is)
-  kinds_give object key kind.ArrayLit (kind.IdentName name) (e ∷ []) (c ∷ cs) h is = no_key ((meaning_by object kind.ArrayLit (meaning e ∷ [])).reference x)
+  kinds_give object key kind.ArrayLit (kind.IdentName name) (e ∷ []) [] h is = array_gives ((meaning e).elements (lone x)) name ((bytes_eq-Decides name (codes "length")).0 is)
+  kinds_give object key kind.ArrayLit (kind.IdentName name) (e ∷ []) (c ∷ cs) h is = no_key ((meaning_by object kind.ArrayLit (meaning e ∷ [])).reference (lone x))
   kinds_give object key kind.ArrayLit (kind.IdentName name) [] ks h is = outside_gives
   kinds_give object key kind.ArrayLit (kind.IdentName name) (e ∷ f ∷ es) ks h is = outside_gives
   kinds_give object key k l os ks h is = absurd (cc)
 
   pub length_gives : (object key : Node) → has_length (out-Node object).kind ≡ true → is_length (out-Node key).kind ≡ true
-      → GivesBy IsNumber (((meaning object).reference x >>= λ r. member_of x r ((meaning key).key x)) >>= λ r. read x r)
+      → GivesBy IsNumber (((meaning object).reference (lone x) >>= λ r. member_of (lone x) r ((meaning key).key (lone x))) >>= λ r. read (lone x) r)
   length_gives object key h is =
-      subst (λ m. GivesBy IsNumber ((m.reference x >>= λ r. member_of x r ((meaning key).key x)) >>= λ r. read x r)) (sym (meaning_out object))
-      (subst (λ m. GivesBy IsNumber (((meaning_by object (out-Node object).kind (map meaning (out-Node object).children)).reference x >>= λ r. member_of x r (m.key x)) >>= λ r. read x r)) (sym (meaning_out key))
+      subst (λ m. GivesBy IsNumber ((m.reference (lone x) >>= λ r. member_of (lone x) r ((meaning key).key (lone x))) >>= λ r. read (lone x) r)) (sym (meaning_out object))
+      (subst (λ m. GivesBy IsNumber (((meaning_by object (out-Node object).kind (map meaning (out-Node object).children)).reference (lone x) >>= λ r. member_of (lone x) r (m.key (lone x))) >>= λ r. read (lone x) r)) (sym (meaning_out key))
       (kinds_give object key (out-Node object).kind (out-Node key).kind (out-Node object).children (out-Node key).children h is))

@@ -1,3 +1,4 @@
+pub mod Lone
 pub mod Both
 pub mod Passing
 pub mod Fronts

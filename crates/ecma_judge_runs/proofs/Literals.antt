@@ -27,6 +27,7 @@ use Rattle.ecma_runs.specs.Meaning.{ExecutionContext}
 use Rattle.ecma_runs.specs.Functions.{read}
 use Rattle.ecma_runs.specs.Expressions.{identifier}
 use Rattle.ecma_runs.proofs.Names.{same_id-equal}
+use Rattle.ecma_judge_runs.proofs.Lone.{lone}
 use Rattle.ecma_judge_runs.specs.Known.{HasTruth, HasNumber, HasText, HasType, declares_no_global}
 use Rattle.ecma_judge_runs.proofs.Giving.{GivesBy, bind_gives, any_gives, give_gives, outside_gives, when_gives, either_gives, given_gives}
 use Rattle.ecma_judge_runs.proofs.Both.{both_true}
@@ -97,11 +98,11 @@ module _ (ctx : ExprCtx) where
 
   module _ (x : ExecutionContext) (apart : declares_no_global ctx x.scope ≡ true) (own : Purity) (name : List ℕ) (ctxt : ℕ) where
     abbrev pub name_run : Run Value
-    name_run = identifier name ctxt x >>= λ r. read x r
+    name_run = identifier name ctxt (lone x) >>= λ r. read (lone x) r
 
     -- what is read of a free name
-    name_read : (P : Value → Type 0) → (ctxt == ctx.unresolved_ctxt) ≡ true → GivesBy P (read x (ToFree name)) → GivesBy P name_run
-    name_read P is h = bind_gives (free_name x.scope apart x.known.declared (record { sym = name; ctxt = ctxt }) is) (λ r same. subst (λ z. GivesBy P (read x z)) (sym same) h)
+    name_read : (P : Value → Type 0) → (ctxt == ctx.unresolved_ctxt) ≡ true → GivesBy P (read (lone x) (ToFree name)) → GivesBy P name_run
+    name_read P is h = bind_gives (free_name x.scope apart x.known.declared (record { sym = name; ctxt = ctxt }) is) (λ r same. subst (λ z. GivesBy P (read (lone x) z)) (sym same) h)
 
     nan_text : name ≡ codes "NaN" → (i : Bool) → HasText (if i || true then Known name else Unknown) (Number js_number.NaN)
     nan_text same true = λ t is. sym (some_same (codes "NaN") t is) ∙ sym same
@@ -113,16 +114,16 @@ module _ (ctx : ExprCtx) where
     name_by true true n i g e e' e'' =
         let same : name ≡ codes "undefined" = (bytes_eq-Decides name (codes "undefined")).0 e in
         name_read (name_fits_by true true n i own name) g
-        (subst (λ z. GivesBy (name_fits_by true true n i own name) (read x (ToFree z))) (sym same)
+        (subst (λ z. GivesBy (name_fits_by true true n i own name) (read (lone x) (ToFree z))) (sym same)
         (give_gives Undefined (refl, λ m is. sym (some_same js_number.NaN m is), λ t is. sym (some_same (codes "undefined") t is) ∙ sym same, refl)))
     name_by true false true i g e e' e'' =
         let same : name ≡ codes "NaN" = (bytes_eq-Decides name (codes "NaN")).0 e' in
         name_read (name_fits_by true false true i own name) g
-        (subst (λ z. GivesBy (name_fits_by true false true i own name) (read x (ToFree z))) (sym same)
+        (subst (λ z. GivesBy (name_fits_by true false true i own name) (read (lone x) (ToFree z))) (sym same)
         (give_gives (Number js_number.NaN) (refl, λ m is. sym (some_same js_number.NaN m is), nan_text same i, refl)))
     name_by true false false true g e e' e'' =
         let same : name ≡ codes "Infinity" = (bytes_eq-Decides name (codes "Infinity")).0 e'' in
         name_read (name_fits_by true false false true own name) g
-        (subst (λ z. GivesBy (name_fits_by true false false true own name) (read x (ToFree z))) (sym same)
+        (subst (λ z. GivesBy (name_fits_by true false false true own name) (read (lone x) (ToFree z))) (sym same)
         (give_gives (Number js_number.Infinity) (tt, λ m is. sym (some_same js_number.Infinity m is), λ t is. sym (some_same (codes "Infinity") t is) ∙ sym same, refl)))
     name_by true false false false g e e' e'' = any_gives (λ v. (tt, tt, tt, tt))

@@ -21,6 +21,7 @@ use Rattle.ecma_runs.specs.Functions.{new_prototype, new_function, prototype_ent
 use Rattle.ecma_runs.specs.Expressions.{function_value, value_of, reference_of}
 use Rattle.ecma_runs.specs.Classes.{field_activation, keep_field_keys, class_in, class_value, class_made_of, all_defined, defined_of, field_with, all_statics, statics_of}
 use Rattle.ecma_runs.proofs.Scopes.{ids_of-empties}
+use Rattle.ecma_judge_runs.proofs.Lone.{lone}
 use Rattle.ecma_judge_runs.specs.Called.{Assumed}
 use Rattle.ecma_judge_runs.specs.Taken.{Taken, all_whole, in_place, in_place_by, read_by, taken, is_taken}
 use Rattle.ecma_judge_runs.proofs.Both.{both_true, neither_true}
@@ -62,50 +63,50 @@ module _ (ctx : ExprCtx) (sure : Assumed) (off : ctx.is_unresolved_ref_safe ≡ 
     -- ---- properties and members
 
     module _ (is_class : Bool) (kept object : ℕ) (place : Place is_class kept object) (new : NewObject old kept) (new' : NewObject old object) where
-      list_defines : (ns : List (Claimed ctx sure x)) → any_has_effects (judgements ctx sure x ns) ≡ false → all_whole (takens ctx sure x ns) ≡ true → all_in_place is_class (takens ctx sure x ns) ≡ true
-          → Keeps old kept (all_defined (meanings ctx sure x ns) kept object (within ctx sure x scope))
+      list_defines : (ns : List (Claimed ctx sure (lone x))) → any_has_effects (judgements ctx sure (lone x) ns) ≡ false → all_whole (takens ctx sure (lone x) ns) ≡ true → all_in_place is_class (takens ctx sure (lone x) ns) ≡ true
+          → Keeps old kept (all_defined (meanings ctx sure (lone x) ns) kept object (within ctx sure (lone x) scope))
       list_defines [] none whole here = give_keeps old kept []
       list_defines (n ∷ ns) none whole here =
-          let e = neither_true (judged ctx n.0).effects (any_has_effects (judgements ctx sure x ns)) none in
-          let t = both_true (is_taken ctx x.known.declared sure n.0) (all_whole (takens ctx sure x ns)) whole in
-          let p = both_true (in_place is_class (taken ctx x.known.declared sure n.0)) (all_in_place is_class (takens ctx sure x ns)) here in
+          let e = neither_true (judged ctx n.0).effects (any_has_effects (judgements ctx sure (lone x) ns)) none in
+          let t = both_true (is_taken ctx x.known.declared sure n.0) (all_whole (takens ctx sure (lone x) ns)) whole in
+          let p = both_true (in_place is_class (taken ctx x.known.declared sure n.0)) (all_in_place is_class (takens ctx sure (lone x) ns)) here in
           bind_from old (n.1.defines e.0 t.0 is_class p.0 kept object place old scope apart new new') (λ ks.
           bind_from old (list_defines ns e.1 t.1 p.1) (λ ls. give_keeps old kept (ks ++ ls)))
 
       method_place : (sort : MethodKind) (is_static : Bool) → NewObject old (cond is_static kept object)
       method_place sort is_static = new_place is_static (NewObject old) kept object new new'
 
-    pub defines_by : (n : Node) (k : Kind) (ns : List (Claimed ctx sure x)) → HasNone ctx sure x n k ns → IsTaken ctx sure x k ns → (is_class : Bool) → in_place_by is_class k (takens ctx sure x ns) ≡ true
-        → (kept object : ℕ) → Place is_class kept object → NewObject old kept → NewObject old object → Keeps old kept (defined_of n k (meanings ctx sure x ns) kept object (within ctx sure x scope))
+    pub defines_by : (n : Node) (k : Kind) (ns : List (Claimed ctx sure (lone x))) → HasNone ctx sure (lone x) n k ns → IsTaken ctx sure (lone x) k ns → (is_class : Bool) → in_place_by is_class k (takens ctx sure (lone x) ns) ≡ true
+        → (kept object : ℕ) → Place is_class kept object → NewObject old kept → NewObject old object → Keeps old kept (defined_of n k (meanings ctx sure (lone x) ns) kept object (within ctx sure (lone x) scope))
     unfolding effects_by access_effects_by part_effects_by pure_callee_by
     defines_by n kind.List ns none whole is_class here kept object place new new' =
         list_defines is_class kept object place new new' ns none whole here
     defines_by n (kind.Ident sym ctxt optional) [] none whole is_class here kept object place new new' =
-        bind_from old (kept_by old Readable (IsDataAt kept) (still_data kept) (λ s. identifier_by ctx sure off x s scope sym ctxt optional n none whole)) (λ r. where_from old (λ readable.
-        bind_from old (keeps_data old kept (λ s. read_leaves s (within ctx sure x scope) r readable)) (λ v.
+        bind_from old (kept_by old Readable (IsDataAt kept) (still_data kept) (λ s. identifier_by ctx sure off (lone x) s scope sym ctxt optional n none whole)) (λ r. where_from old (λ readable.
+        bind_from old (keeps_data old kept (λ s. read_leaves s (within ctx sure (lone x) scope) r readable)) (λ v.
         bind_from old (define_data_keeps old kept object sym v new') (λ _. give_keeps old kept []))))
     defines_by n kind.KeyValueProp (key ∷ value ∷ []) none whole is_class here kept object place new new' =
         let e = neither_true (judged ctx key.0).effects (judged ctx value.0).effects none in
-        bind_from old (keeps_data old kept (λ s. (first_quiet ctx sure x key (value ∷ []) e.0 whole).key s scope apart)) (λ k.
-        bind_from old (keeps_data old kept (λ s. literal_key_leaves ctx sure off x s scope apart (meaning key.0).is_computed k)) (λ k.
-        bind_from old (keeps_data old kept (λ s. (value.1.quiet e.1 (second_whole ctx sure x key value [] whole)).value s scope apart)) (λ v.
+        bind_from old (keeps_data old kept (λ s. (first_quiet ctx sure (lone x) key (value ∷ []) e.0 whole).key s scope apart)) (λ k.
+        bind_from old (keeps_data old kept (λ s. literal_key_leaves ctx sure off (lone x) s scope apart (meaning key.0).is_computed k)) (λ k.
+        bind_from old (keeps_data old kept (λ s. (value.1.quiet e.1 (second_whole ctx sure (lone x) key value [] whole)).value s scope apart)) (λ v.
         bind_from old (define_data_keeps old kept object k v new') (λ _. give_keeps old kept []))))
     defines_by n kind.MethodProp (key ∷ function ∷ []) none whole is_class here kept object place new new' =
-        bind_from old (keeps_data old kept (λ s. (first_quiet ctx sure x key (function ∷ []) none whole).key s scope apart)) (λ k.
+        bind_from old (keeps_data old kept (λ s. (first_quiet ctx sure (lone x) key (function ∷ []) none whole).key s scope apart)) (λ k.
         bind_from old (keeps_data old kept (λ s. leaves_of s (function.1.made Method (Some object) s scope))) (λ f.
         bind_from old (define_method_keeps old kept method.Method object k f new' (inl refl)) (λ _. give_keeps old kept [])))
     defines_by n kind.GetterProp (key ∷ type ∷ body ∷ []) none whole true here kept object place new new' =
         bind_from old (keeps_data old kept (λ s. (key.1.quiet none whole).key s scope apart)) (λ k.
-        bind_from old (keeps_data old kept (λ s. leaves_of s (make_function_from s (within ctx sure x scope) n Method (Some object)))) (λ f.
+        bind_from old (keeps_data old kept (λ s. leaves_of s (make_function_from s (within ctx sure (lone x) scope) n Method (Some object)))) (λ f.
         bind_from old (define_method_keeps old kept method.Getter object k f new' (inr place)) (λ _. give_keeps old kept [])))
     defines_by n kind.SetterProp (key ∷ this_parameter ∷ parameter ∷ body ∷ []) none whole true here kept object place new new' =
         bind_from old (keeps_data old kept (λ s. (key.1.quiet none whole).key s scope apart)) (λ k.
-        bind_from old (keeps_data old kept (λ s. leaves_of s (make_function_from s (within ctx sure x scope) n Method (Some object)))) (λ f.
+        bind_from old (keeps_data old kept (λ s. leaves_of s (make_function_from s (within ctx sure (lone x) scope) n Method (Some object)))) (λ f.
         bind_from old (define_method_keeps old kept method.Setter object k f new' (inr place)) (λ _. give_keeps old kept [])))
     defines_by n kind.GetterProp (key ∷ type ∷ body ∷ []) none whole false here kept object place new new' = absurd (cc)
     defines_by n kind.SetterProp (key ∷ this_parameter ∷ parameter ∷ body ∷ []) none whole false here kept object place new new' = absurd (cc)
     defines_by n (kind.ClassMethod sort modifiers) (key ∷ function ∷ []) none whole is_class here kept object place new new' =
-        bind_from old (keeps_data old kept (λ s. (first_quiet ctx sure x key (function ∷ []) none whole).key s scope apart)) (λ k.
+        bind_from old (keeps_data old kept (λ s. (first_quiet ctx sure (lone x) key (function ∷ []) none whole).key s scope apart)) (λ k.
         bind_from old (keeps_data old kept (λ s. leaves_of s (function.1.made Method (Some (cond modifiers.is_static kept object)) s scope))) (λ f.
         bind_from old (define_method_keeps old kept sort (cond modifiers.is_static kept object) k f (method_place is_class kept object place new new' sort modifiers.is_static)
         (method_spares is_class sort modifiers.is_static kept object place here)) (λ _. give_keeps old kept [])))
@@ -120,21 +121,21 @@ module _ (ctx : ExprCtx) (sure : Assumed) (off : ctx.is_unresolved_ref_safe ≡ 
     -- ---- static fields
 
     module _ (kept : ℕ) (new : NewObject old kept) where
-      field_with_keeps : (is_here : Bool) (value : Meaning) → Quiet ctx sure x value → (keys : List (List ℕ)) → Keeps old kept (field_with is_here value keys (Own kept) (within ctx sure x scope))
+      field_with_keeps : (is_here : Bool) (value : Meaning) → Quiet ctx sure (lone x) value → (keys : List (List ℕ)) → Keeps old kept (field_with is_here value keys (Own kept) (within ctx sure (lone x) scope))
       field_with_keeps is_here value q [] = outside_from old
       field_with_keeps is_here value q (key ∷ keys) =
           bind_from old (when_from old is_here (bind_from old (keeps_data old kept (λ s. q.initial s scope apart)) (λ v. define_data_keeps old kept kept key v new)) (give_keeps old kept tt)) (λ _. give_keeps old kept keys)
 
-      list_sets : (ns : List (Claimed ctx sure x)) → any_has_effects (judgements ctx sure x ns) ≡ false → all_whole (takens ctx sure x ns) ≡ true → (keys : List (List ℕ))
-          → Keeps old kept (all_statics (meanings ctx sure x ns) keys (Own kept) (within ctx sure x scope))
+      list_sets : (ns : List (Claimed ctx sure (lone x))) → any_has_effects (judgements ctx sure (lone x) ns) ≡ false → all_whole (takens ctx sure (lone x) ns) ≡ true → (keys : List (List ℕ))
+          → Keeps old kept (all_statics (meanings ctx sure (lone x) ns) keys (Own kept) (within ctx sure (lone x) scope))
       list_sets [] none whole keys = give_keeps old kept keys
       list_sets (n ∷ ns) none whole keys =
-          let e = neither_true (judged ctx n.0).effects (any_has_effects (judgements ctx sure x ns)) none in
-          let t = both_true (is_taken ctx x.known.declared sure n.0) (all_whole (takens ctx sure x ns)) whole in
+          let e = neither_true (judged ctx n.0).effects (any_has_effects (judgements ctx sure (lone x) ns)) none in
+          let t = both_true (is_taken ctx x.known.declared sure n.0) (all_whole (takens ctx sure (lone x) ns)) whole in
           bind_from old (n.1.sets e.0 t.0 keys kept old scope apart new) (λ left. list_sets ns e.1 t.1 left)
 
-      pub sets_by : (n : Node) (k : Kind) (ns : List (Claimed ctx sure x)) → HasNone ctx sure x n k ns → IsTaken ctx sure x k ns → (keys : List (List ℕ))
-          → Keeps old kept (statics_of k (meanings ctx sure x ns) keys (Own kept) (within ctx sure x scope))
+      pub sets_by : (n : Node) (k : Kind) (ns : List (Claimed ctx sure (lone x))) → HasNone ctx sure (lone x) n k ns → IsTaken ctx sure (lone x) k ns → (keys : List (List ℕ))
+          → Keeps old kept (statics_of k (meanings ctx sure (lone x) ns) keys (Own kept) (within ctx sure (lone x) scope))
       unfolding effects_by access_effects_by part_effects_by pure_callee_by
       sets_by n kind.List ns none whole keys = list_sets ns none whole keys
       sets_by n (kind.ClassProp modifiers readonly declare definite) (key ∷ value ∷ type ∷ []) none whole keys =
@@ -148,11 +149,11 @@ module _ (ctx : ExprCtx) (sure : Assumed) (off : ctx.is_unresolved_ref_safe ≡ 
 
   -- ---- classes
 
-  module _ (old : State) (scope : List Entered) (apart : Apart ctx sure scope) (n : Node) (super body : Claimed ctx sure x) (names : List Id) (named : NamesApart ctx sure names) (absent : (meaning super.0).is_absent ≡ true)
+  module _ (old : State) (scope : List Entered) (apart : Apart ctx sure scope) (n : Node) (super body : Claimed ctx sure (lone x)) (names : List Id) (named : NamesApart ctx sure names) (absent : (meaning super.0).is_absent ≡ true)
       (none : (judged ctx body.0).effects ≡ false) (whole : is_taken ctx x.known.declared sure body.0 ≡ true) (here : (taken ctx x.known.declared sure body.0).in_class ≡ true) where
     module _ (entered : Entered) (new : NewRecord old entered) (inner : Apart ctx sure (entered ∷ scope)) where
       abbrev around : ExecutionContext
-      around = within ctx sure x (entered ∷ scope)
+      around = within ctx sure (lone x) (entered ∷ scope)
 
       class_behind : (prototype : ℕ) → NewObject old prototype → (class : ℕ) → NewObject old class → prototype < class → LeavesFrom old (IsDataAt class) IsNew
           ((meaning body.0).defined class prototype around >>= λ keys. keep_field_keys class keys >>= λ _. set_all names entered.place (Own class) >>= λ _.
@@ -165,7 +166,7 @@ module _ (ctx : ExprCtx) (sure : Assumed) (off : ctx.is_unresolved_ref_safe ≡ 
           (λ place. where_from old (λ no_ids.
           bind_from old (body.1.sets none whole keys class old (place ∷ entered ∷ scope) (apart_inside ctx sure place (entered ∷ scope) [] no_ids (λ g. refl) inner) new_class) (λ _. give_from old (Own class) (λ s d. (class, refl, inl d))))))))
 
-      class_in_read : LeavesFrom old Any IsNew (class_in n (meaning super.0) (meaning body.0) names entered (within ctx sure x scope))
+      class_in_read : LeavesFrom old Any IsNew (class_in n (meaning super.0) (meaning body.0) names entered (within ctx sure (lone x) scope))
       class_in_read =
           bind_from old {P = λ parents s. parents ≡ (None, None)} (known_when old (meaning super.0).is_absent _ absent (give_from old (None, None) (λ s r. refl)))
           (same_from old (None, None) (λ parents.
@@ -177,13 +178,14 @@ module _ (ctx : ExprCtx) (sure : Assumed) (off : ctx.is_unresolved_ref_safe ≡ 
           bind_from old (new_class_from old (λ p. prototype < p) around prototype n (cond (meaning super.0).is_absent BaseClass DerivedClass) (Some prototype))
           (λ class. where_both_from old (λ new_class before. class_behind prototype new_prototype_place class new_class before))))))
 
-    class_value_read : LeavesFrom old Any IsNew (class_value n (meaning super.0) (meaning body.0) names (within ctx sure x scope))
+    class_value_read : LeavesFrom old Any IsNew (class_value n (meaning super.0) (meaning body.0) names (within ctx sure (lone x) scope))
     class_value_read =
         bind_from old (of_leaves old {R = Any} (new_environment_as old (map (empty true) names) None)) (λ entered. where_alone_from old (λ new.
         class_in_read entered new.0 (apart_inside ctx sure entered scope names (new.1 ∙ ids_of-empties true names) named apart)))
 
-  pub class_read_by : (n : Node) (k : Kind) (ns : List (Claimed ctx sure x)) → HasNone ctx sure x n k ns → IsTaken ctx sure x k ns → in_place_by true k (takens ctx sure x ns) ≡ true → (names : List Id) → NamesApart ctx sure names
-      → (old : State) (scope : List Entered) → Apart ctx sure scope → LeavesFrom old Any IsNew (class_made_of n k (meanings ctx sure x ns) names (within ctx sure x scope))
+  pub class_read_by : (n : Node) (k : Kind) (ns : List (Claimed ctx sure (lone x))) → HasNone ctx sure (lone x) n k ns → IsTaken ctx sure (lone x) k ns →
+      in_place_by true k (takens ctx sure (lone x) ns) ≡ true → (names : List Id) → NamesApart ctx sure names
+      → (old : State) (scope : List Entered) → Apart ctx sure scope → LeavesFrom old Any IsNew (class_made_of n k (meanings ctx sure (lone x) ns) names (within ctx sure (lone x) scope))
   unfolding effects_by access_effects_by part_effects_by pure_callee_by
   class_read_by n (kind.Class is_abstract) (super ∷ body ∷ types ∷ super_types ∷ implements ∷ []) none whole here names named old scope apart =
       let e = neither_true (judged ctx super.0).effects (judged ctx body.0).effects none in
@@ -201,13 +203,13 @@ module _ (ctx : ExprCtx) (sure : Assumed) (off : ctx.is_unresolved_ref_safe ≡ 
     give_read : (o : ℕ) → LeavesFrom old (IsReadAt o) IsNew (give (Own o))
     give_read o = give_from old (Own o) (λ s r. (o, refl, r))
 
-    function_read : (ids : List Id) (function : Meaning) → Makes ctx sure x function → LeavesFrom old Any IsNew (function_value ids function (within ctx sure x scope))
+    function_read : (ids : List Id) (function : Meaning) → Makes ctx sure (lone x) function → LeavesFrom old Any IsNew (function_value ids function (within ctx sure (lone x) scope))
     function_read ids function made =
         bind_from old (of_leaves old {R = Any} (new_environment_by old (map (empty true) ids) None)) (λ entered. where_alone_from old (λ new.
         bind_from old (made Plain None old (entered ∷ scope)) (λ f. bind_from old (set_all_from old (IsReadIn f) ids entered.place (Own f) new) (λ _. give_read f))))
 
-    value_read : (n : Node) (k : Kind) (ns : List (Claimed ctx sure x)) → HasNone ctx sure x n k ns → read_by ctx x.known.declared sure k (takens ctx sure x ns) ≡ true → reading_may_call_by k n ≡ false
-        → LeavesFrom old Any IsNew (value_of n k (meanings ctx sure x ns) (within ctx sure x scope))
+    value_read : (n : Node) (k : Kind) (ns : List (Claimed ctx sure (lone x))) → HasNone ctx sure (lone x) n k ns → read_by ctx x.known.declared sure k (takens ctx sure (lone x) ns) ≡ true → reading_may_call_by k n ≡ false
+        → LeavesFrom old Any IsNew (value_of n k (meanings ctx sure (lone x) ns) (within ctx sure (lone x) scope))
     unfolding effects_by access_effects_by part_effects_by pure_callee_by
     value_read n kind.ObjectLit (properties ∷ []) none read plain =
         let t = both_true (is_taken ctx x.known.declared sure properties.0) (taken ctx x.known.declared sure properties.0).in_object read in
@@ -220,7 +222,7 @@ module _ (ctx : ExprCtx) (sure : Assumed) (off : ctx.is_unresolved_ref_safe ≡ 
         let w = both_true (not sure.globals || (taken ctx x.known.declared sure name.0).named) (taken ctx x.known.declared sure class.0).in_class u.1 in
         class.1.class_read none u.0 w.1 (meaning name.0).names (λ g. name.1.named (asked sure.globals (taken ctx x.known.declared sure name.0).named w.0 g)) old scope apart
     value_read n kind.FnExpr (name ∷ function ∷ []) none read plain = function_read (meaning name.0).names (meaning function.0) function.1.made
-    value_read n (kind.ArrowExpr is_async false) ns none read plain = bind_from old (make_function_from old (within ctx sure x scope) n Arrow None) (λ f. give_new f)
+    value_read n (kind.ArrowExpr is_async false) ns none read plain = bind_from old (make_function_from old (within ctx sure (lone x) scope) n Arrow None) (λ f. give_new f)
     value_read n kind.ObjectLit ns none read plain = outside_from old
     value_read n kind.ClassExpr ns none read plain = outside_from old
     value_read n kind.FnExpr ns none read plain = outside_from old
@@ -230,11 +232,11 @@ module _ (ctx : ExprCtx) (sure : Assumed) (off : ctx.is_unresolved_ref_safe ≡ 
     as_reference : (m : Run Value) → LeavesFrom old Any IsNew m → LeavesFrom old Any RefersToNew (m >>= λ v. give (ToValue v))
     as_reference m h = bind_from old h (λ v. give_from old (ToValue v) (λ s d. (d.0, ap ToValue d.1, d.2)))
 
-    pub read_reference : (n : Node) (k : Kind) (ns : List (Claimed ctx sure x)) → HasNone ctx sure x n k ns → read_by ctx x.known.declared sure k (takens ctx sure x ns) ≡ true → reading_may_call_by k n ≡ false
-        → LeavesFrom old Any RefersToNew (reference_of n k (meanings ctx sure x ns) (within ctx sure x scope))
-    read_reference n kind.ObjectLit ns none read plain = as_reference (value_of n kind.ObjectLit (meanings ctx sure x ns) (within ctx sure x scope)) (value_read n kind.ObjectLit ns none read plain)
-    read_reference n kind.ClassExpr ns none read plain = as_reference (value_of n kind.ClassExpr (meanings ctx sure x ns) (within ctx sure x scope)) (value_read n kind.ClassExpr ns none read plain)
-    read_reference n kind.FnExpr ns none read plain = as_reference (value_of n kind.FnExpr (meanings ctx sure x ns) (within ctx sure x scope)) (value_read n kind.FnExpr ns none read plain)
+    pub read_reference : (n : Node) (k : Kind) (ns : List (Claimed ctx sure (lone x))) → HasNone ctx sure (lone x) n k ns → read_by ctx x.known.declared sure k (takens ctx sure (lone x) ns) ≡ true → reading_may_call_by k n ≡ false
+        → LeavesFrom old Any RefersToNew (reference_of n k (meanings ctx sure (lone x) ns) (within ctx sure (lone x) scope))
+    read_reference n kind.ObjectLit ns none read plain = as_reference (value_of n kind.ObjectLit (meanings ctx sure (lone x) ns) (within ctx sure (lone x) scope)) (value_read n kind.ObjectLit ns none read plain)
+    read_reference n kind.ClassExpr ns none read plain = as_reference (value_of n kind.ClassExpr (meanings ctx sure (lone x) ns) (within ctx sure (lone x) scope)) (value_read n kind.ClassExpr ns none read plain)
+    read_reference n kind.FnExpr ns none read plain = as_reference (value_of n kind.FnExpr (meanings ctx sure (lone x) ns) (within ctx sure (lone x) scope)) (value_read n kind.FnExpr ns none read plain)
     read_reference n (kind.ArrowExpr is_async is_generator) ns none read plain =
-        as_reference (value_of n (kind.ArrowExpr is_async is_generator) (meanings ctx sure x ns) (within ctx sure x scope)) (value_read n (kind.ArrowExpr is_async is_generator) ns none read plain)
+        as_reference (value_of n (kind.ArrowExpr is_async is_generator) (meanings ctx sure (lone x) ns) (within ctx sure (lone x) scope)) (value_read n (kind.ArrowExpr is_async is_generator) ns none read plain)
     read_reference n k ns none read plain = absurd (cc)

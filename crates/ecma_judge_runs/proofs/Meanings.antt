@@ -18,6 +18,7 @@ use Rattle.ecma_runs.specs.Environment.{Reference, ToValue}
 use Rattle.ecma_runs.specs.Meaning.{ExecutionContext, Meaning}
 use Rattle.ecma_runs.specs.Evaluation.{meaning}
 use Rattle.ecma_runs.specs.Expressions.{chained}
+use Rattle.ecma_judge_runs.proofs.Lone.{lone}
 use Rattle.ecma_judge_runs.specs.Idle.{is_harmless}
 use Rattle.ecma_judge_runs.specs.Called.{Assumed, is_function_expression, are_apart, declares_no_loose}
 use Rattle.ecma_judge_runs.specs.Taken.{Taken, all_whole, in_place, is_taken_by, read_by, called_by, taken_by, taken, is_taken}
@@ -58,7 +59,7 @@ module _ (ctx : ExprCtx) (sure : Assumed) (x : ExecutionContext) where
   -- a name of which members are read is global
   pub read_name : (n : Node) → (taken ctx x.known.declared sure n).read ≡ true → is_name (out-Node n).kind ≡ true → sure.globals ≡ true
   read_name n read is =
-      read_name_by (out-Node n).kind (map (taken ctx x.known.declared sure) (out-Node n).children) (sym (ap (λ (t : Taken). t.read) (taken-out ctx sure x n)) ∙ read) is
+      read_name_by (out-Node n).kind (map (taken ctx x.known.declared sure) (out-Node n).children) (sym (ap (λ (t : Taken). t.read) (taken-out ctx sure (lone x) n)) ∙ read) is
 
   called_idle_by : (n : Node) (k : Kind) (cs : List Taken) → called_by ctx x.known.declared sure k n cs ≡ true → is_function_expression k ≡ true → (sure.calls ≡ true) × (passes_at is_harmless 1 n ≡ true)
   called_idle_by n kind.FnExpr cs called is = both_true sure.calls (passes_at is_harmless 1 n) called
@@ -67,7 +68,7 @@ module _ (ctx : ExprCtx) (sure : Assumed) (x : ExecutionContext) where
   -- a function expression that is a callee does nothing, and calls are those of the program
   pub called_idle : (n : Node) → (taken ctx x.known.declared sure n).called ≡ true → is_function_expression (out-Node n).kind ≡ true → (sure.calls ≡ true) × (passes_at is_harmless 1 n ≡ true)
   called_idle n called is =
-      called_idle_by n (out-Node n).kind (map (taken ctx x.known.declared sure) (out-Node n).children) (sym (ap (λ (t : Taken). t.called) (taken-out ctx sure x n)) ∙ called) is
+      called_idle_by n (out-Node n).kind (map (taken ctx x.known.declared sure) (out-Node n).children) (sym (ap (λ (t : Taken). t.called) (taken-out ctx sure (lone x) n)) ∙ called) is
 
   called_name_by : (n : Node) (k : Kind) (cs : List Node) → called_by ctx x.known.declared sure k n (map (taken ctx x.known.declared sure) cs) ≡ true → needs_globals k cs ≡ true → sure.globals ≡ true
   called_name_by n (kind.Ident sym ctxt optional) cs called is = called
@@ -75,7 +76,7 @@ module _ (ctx : ExprCtx) (sure : Assumed) (x : ExecutionContext) where
   called_name_by n k cs called is = absurd (cc)
 
   pub called_name : (n : Node) → (taken ctx x.known.declared sure n).called ≡ true → needs_globals (out-Node n).kind (out-Node n).children ≡ true → sure.globals ≡ true
-  called_name n called is = called_name_by n (out-Node n).kind (out-Node n).children (sym (ap (λ (t : Taken). t.called) (taken-out ctx sure x n)) ∙ called) is
+  called_name n called is = called_name_by n (out-Node n).kind (out-Node n).children (sym (ap (λ (t : Taken). t.called) (taken-out ctx sure (lone x) n)) ∙ called) is
 
 module _ (ctx : ExprCtx) (sure : Assumed) where
   -- names, and scopes, whose names have contexts of their own, where that is asked
@@ -92,7 +93,7 @@ module _ (ctx : ExprCtx) (sure : Assumed) where
   module _ (x : ExecutionContext) where
     -- the context, where these scopes are around
     abbrev pub within : List Entered → ExecutionContext
-    within scope = record x { scope = scope }
+    within scope = record (lone x) { scope = scope }
 
     abbrev pub Evaluates : {A : Type 0} → (ExecutionContext → Run A) → Type 0
     Evaluates e = (old : State) (scope : List Entered) → Apart scope → Leaves old (e (within scope))
@@ -128,25 +129,25 @@ RefersToNew r s = (o : ℕ) × (r ≡ ToValue (Own o)) × IsReadAt o s
 module _ (ctx : ExprCtx) (sure : Assumed) (x : ExecutionContext) where
   -- what is shown of each node
   pub record Claim (n : Node) : Type 0 where
-    pub made : Makes ctx sure x (meaning n)
+    pub made : Makes ctx sure (lone x) (meaning n)
     pub named : (taken ctx x.known.declared sure n).named ≡ true → are_apart ctx (meaning n).names ≡ true
     pub missing : (taken ctx x.known.declared sure n).missing ≡ true → (meaning n).is_absent ≡ true
-    pub quiet : (judged ctx n).effects ≡ false → is_taken ctx x.known.declared sure n ≡ true → Quiet ctx sure x (meaning n)
+    pub quiet : (judged ctx n).effects ≡ false → is_taken ctx x.known.declared sure n ≡ true → Quiet ctx sure (lone x) (meaning n)
     -- an object without accessors, of which members are read
     pub read : (judged ctx n).effects ≡ false → (taken ctx x.known.declared sure n).read ≡ true → reads_plainly n ≡ true → (old : State) (scope : List Entered) → Apart ctx sure scope
-        → LeavesFrom old Any RefersToNew ((meaning n).reference (within ctx sure x scope))
+        → LeavesFrom old Any RefersToNew ((meaning n).reference (within ctx sure (lone x) scope))
     -- a class without static accessors
     pub class_read : (judged ctx n).effects ≡ false → is_taken ctx x.known.declared sure n ≡ true → (taken ctx x.known.declared sure n).in_class ≡ true → (names : List Id) → NamesApart ctx sure names
-        → (old : State) (scope : List Entered) → Apart ctx sure scope → LeavesFrom old Any IsNew ((meaning n).class_made names (within ctx sure x scope))
+        → (old : State) (scope : List Entered) → Apart ctx sure scope → LeavesFrom old Any IsNew ((meaning n).class_made names (within ctx sure (lone x) scope))
     -- properties and members, which are no accessors
     pub defines : (judged ctx n).effects ≡ false → is_taken ctx x.known.declared sure n ≡ true → (is_class : Bool) → in_place is_class (taken ctx x.known.declared sure n) ≡ true → (kept object : ℕ) → Place is_class kept object
-        → (old : State) (scope : List Entered) → Apart ctx sure scope → NewObject old kept → NewObject old object → Keeps old kept ((meaning n).defined kept object (within ctx sure x scope))
+        → (old : State) (scope : List Entered) → Apart ctx sure scope → NewObject old kept → NewObject old object → Keeps old kept ((meaning n).defined kept object (within ctx sure (lone x) scope))
     -- static fields
     pub sets : (judged ctx n).effects ≡ false → is_taken ctx x.known.declared sure n ≡ true → (keys : List (List ℕ)) (kept : ℕ) (old : State) (scope : List Entered) → Apart ctx sure scope → NewObject old kept
-        → Keeps old kept ((meaning n).statics keys (Own kept) (within ctx sure x scope))
+        → Keeps old kept ((meaning n).statics keys (Own kept) (within ctx sure (lone x) scope))
     -- an optional call
     pub linked : (judged ctx n).effects ≡ false → is_taken ctx x.known.declared sure n ≡ true → is_optional_call (out-Node n).kind ≡ true → (optional : Bool) (old : State) (scope : List Entered) → Apart ctx sure scope
-        → LeavesBy old (λ o. Readable (chained o)) ((meaning n).link optional (within ctx sure x scope))
+        → LeavesBy old (λ o. Readable (chained o)) ((meaning n).link optional (within ctx sure (lone x) scope))
 
   abbrev pub Claimed : Type 0
   Claimed = (n : Node) × Claim n
@@ -177,7 +178,7 @@ module _ (ctx : ExprCtx) (sure : Assumed) (x : ExecutionContext) where
   -- each of these has no effects
   abbrev pub AllQuiet : List Claimed → Type 0
   AllQuiet [] = Unit {0}
-  AllQuiet (n ∷ ns) = Quiet ctx sure x (meaning n.0) × AllQuiet ns
+  AllQuiet (n ∷ ns) = Quiet ctx sure (lone x) (meaning n.0) × AllQuiet ns
 
   pub all_quiet : (ns : List Claimed) → any_has_effects (judgements ns) ≡ false → all_whole (takens ns) ≡ true → AllQuiet ns
   all_quiet [] none whole = tt
@@ -190,7 +191,7 @@ module _ (ctx : ExprCtx) (sure : Assumed) (x : ExecutionContext) where
   pub first_whole : (n : Claimed) (ns : List Claimed) → all_whole (takens (n ∷ ns)) ≡ true → is_taken ctx x.known.declared sure n.0 ≡ true
   first_whole n ns whole = (both_true (is_taken ctx x.known.declared sure n.0) (all_whole (takens ns)) whole).0
 
-  pub first_quiet : (n : Claimed) (ns : List Claimed) → (judged ctx n.0).effects ≡ false → all_whole (takens (n ∷ ns)) ≡ true → Quiet ctx sure x (meaning n.0)
+  pub first_quiet : (n : Claimed) (ns : List Claimed) → (judged ctx n.0).effects ≡ false → all_whole (takens (n ∷ ns)) ≡ true → Quiet ctx sure (lone x) (meaning n.0)
   first_quiet n ns none whole = n.1.quiet none (first_whole n ns whole)
 
   -- the second one is taken, where all are

@@ -19,6 +19,7 @@ use Rattle.ecma_runs.specs.Functions.{callee_by}
 use Rattle.ecma_runs.specs.Expressions.{chained, continued, call_link}
 use Rattle.ecma_runs.specs.Evaluation.{role_by, ending_chain, no_effect, constant_meaning, set_export, meaning_by, meaning}
 use Rattle.ecma_runs.proofs.Layer.{meaning-roll}
+use Rattle.ecma_judge_runs.proofs.Lone.{lone}
 use Rattle.ecma_judge_runs.specs.Called.{is_function_expression, is_loose, are_apart, Assumed, AppliesFunctions}
 use Rattle.ecma_judge_runs.specs.Taken.{Taken, all_named, in_place, in_place_by, missing_by, named_by, read_by, taken_by, taken, is_taken}
 use Rattle.ecma_judge_runs.proofs.Both.{both_true, two_true, not_true}
@@ -46,26 +47,26 @@ apart_behind ctx [] others h k = k
 apart_behind ctx (id ∷ ids) others h k =
     let t = both_true (not (is_loose ctx id.ctxt)) (are_apart ctx ids) h in two_true (not (is_loose ctx id.ctxt)) (are_apart ctx (ids ++ others)) t.0 (apart_behind ctx ids others t.1 k)
 
-module _ (ctx : ExprCtx) (sure : Assumed) (off : ctx.is_unresolved_ref_safe ≡ false) (x : ExecutionContext) (applies : sure.calls ≡ true → AppliesFunctions x) where
+module _ (ctx : ExprCtx) (sure : Assumed) (off : ctx.is_unresolved_ref_safe ≡ false) (x : ExecutionContext) (applies : sure.calls ≡ true → AppliesFunctions (lone x)) where
   abbrev ClaimedNode : Type 0
-  ClaimedNode = Claimed ctx sure x
+  ClaimedNode = Claimed ctx sure (lone x)
 
   abbrev here : List ClaimedNode → List Meaning
-  here ns = meanings ctx sure x ns
+  here ns = meanings ctx sure (lone x) ns
 
   abbrev marks : List ClaimedNode → List Taken
-  marks ns = takens ctx sure x ns
+  marks ns = takens ctx sure (lone x) ns
 
   -- ---- functions that are made
 
-  no_effect_makes : (n : Node) → Makes ctx sure x (no_effect n)
+  no_effect_makes : (n : Node) → Makes ctx sure (lone x) (no_effect n)
   no_effect_makes n sort home old scope = outside_from old
 
-  either_makes : (b : Bool) (m k : Meaning) → Makes ctx sure x m → Makes ctx sure x k → Makes ctx sure x (cond b m k)
+  either_makes : (b : Bool) (m k : Meaning) → Makes ctx sure (lone x) m → Makes ctx sure (lone x) k → Makes ctx sure (lone x) (cond b m k)
   either_makes true m k hm hk = hm
   either_makes false m k hm hk = hk
 
-  layer_makes : (n : Node) (k : Kind) (ns : List ClaimedNode) → Makes ctx sure x (meaning_by n k (here ns))
+  layer_makes : (n : Node) (k : Kind) (ns : List ClaimedNode) → Makes ctx sure (lone x) (meaning_by n k (here ns))
   layer_makes n kind.ParenExpr (e ∷ []) = e.1.made
   layer_makes n kind.TsAsExpr (e ∷ type ∷ []) = e.1.made
   layer_makes n kind.TsTypeAssertion (e ∷ type ∷ []) = e.1.made
@@ -81,7 +82,9 @@ module _ (ctx : ExprCtx) (sure : Assumed) (off : ctx.is_unresolved_ref_safe ≡ 
   layer_makes n (kind.TsImportEqualsDecl true false) (name ∷ source ∷ []) =
       either_makes (meaning source.0).is_required (constant_meaning n (meaning name.0) (set_export n (meaning name.0) (meaning source.0)))
       (role_by n kind.ExportDecl (constant_meaning n (meaning name.0) (meaning source.0) ∷ [])) (no_effect_makes n) (no_effect_makes n)
-  layer_makes n k ns = either_makes (has_no_effect k (here ns)) (no_effect n) (role_by n k (here ns)) (no_effect_makes n) (made_leaves ctx sure off x n k (here ns))
+  layer_makes n (kind.TsEnumDecl false is_const) (name ∷ members ∷ []) = no_effect_makes n
+  layer_makes n kind.TsEnumMember (name ∷ init ∷ []) = no_effect_makes n
+  layer_makes n k ns = either_makes (has_no_effect k (here ns)) (no_effect n) (role_by n k (here ns)) (no_effect_makes n) (made_leaves ctx sure off (lone x) n k (here ns))
 
   -- ---- names
 
@@ -134,6 +137,8 @@ module _ (ctx : ExprCtx) (sure : Assumed) (off : ctx.is_unresolved_ref_safe ≡ 
   layer_named n (kind.TsImportEqualsDecl true false) (name ∷ source ∷ []) h =
       either_named (meaning source.0).is_required (constant_meaning n (meaning name.0) (set_export n (meaning name.0) (meaning source.0)))
       (role_by n kind.ExportDecl (constant_meaning n (meaning name.0) (meaning source.0) ∷ [])) refl refl
+  layer_named n (kind.TsEnumDecl false is_const) (name ∷ members ∷ []) h = refl
+  layer_named n kind.TsEnumMember (name ∷ init ∷ []) h = refl
   layer_named n k ns h = either_named (has_no_effect k (here ns)) (no_effect n) (role_by n k (here ns)) refl (role_named n k ns h)
 
   -- a child that is missing
@@ -143,7 +148,7 @@ module _ (ctx : ExprCtx) (sure : Assumed) (off : ctx.is_unresolved_ref_safe ≡ 
 
   -- ---- what leaves all as it was
 
-  no_effect_quiet : (n : Node) → Quiet ctx sure x (no_effect n)
+  no_effect_quiet : (n : Node) → Quiet ctx sure (lone x) (no_effect n)
   no_effect_quiet n = record {
     value = λ old scope apart. outside_leaves old;
     reference = λ old scope apart. outside_from old;
@@ -156,11 +161,11 @@ module _ (ctx : ExprCtx) (sure : Assumed) (off : ctx.is_unresolved_ref_safe ≡ 
     statics = λ keys class old scope apart c. give_leaves old keys;
   }
 
-  either_quiet : (b : Bool) {m k : Meaning} → Quiet ctx sure x m → Quiet ctx sure x k → Quiet ctx sure x (cond b m k)
+  either_quiet : (b : Bool) {m k : Meaning} → Quiet ctx sure (lone x) m → Quiet ctx sure (lone x) k → Quiet ctx sure (lone x) (cond b m k)
   either_quiet true hm hk = hm
   either_quiet false hm hk = hk
 
-  ending_quiet : (m : Meaning) → Quiet ctx sure x m → Quiet ctx sure x (ending_chain m)
+  ending_quiet : (m : Meaning) → Quiet ctx sure (lone x) m → Quiet ctx sure (lone x) (ending_chain m)
   ending_quiet m q = record {
     value = q.value;
     reference = q.reference;
@@ -173,26 +178,26 @@ module _ (ctx : ExprCtx) (sure : Assumed) (off : ctx.is_unresolved_ref_safe ≡ 
     statics = q.statics;
   }
 
-  role_quiet : (n : Node) (k : Kind) (ns : List ClaimedNode) → Has ctx sure x n ns → HasNone ctx sure x n k ns → IsTaken ctx sure x k ns → Quiet ctx sure x (role_by n k (here ns))
+  role_quiet : (n : Node) (k : Kind) (ns : List ClaimedNode) → Has ctx sure (lone x) n ns → HasNone ctx sure (lone x) n k ns → IsTaken ctx sure (lone x) k ns → Quiet ctx sure (lone x) (role_by n k (here ns))
   role_quiet n k ns has none whole = record {
-    value = λ old scope apart. value_leaves ctx sure off x applies old scope apart n k ns has none whole;
-    reference = λ old scope apart. reference_by ctx sure off x applies old scope apart n k ns has none whole;
-    initial = λ old scope apart. initial_leaves ctx sure off x applies old scope apart n k ns has none whole;
-    arguments = λ old scope apart. arguments_leaves ctx sure off x applies old scope apart n k ns has none whole;
-    elements = λ old scope apart. elements_leaves ctx sure off x applies old scope apart n k ns has none whole;
-    key = λ old scope apart. key_leaves ctx sure off x applies old scope apart n k ns none whole;
-    class_made = λ names named old scope apart. class_made_leaves ctx sure off x old scope apart n k ns none whole names named;
-    defined = λ class object old scope apart c o. defined_leaves ctx sure off x old scope apart n k ns none whole class object c o;
-    statics = λ keys class old scope apart c. statics_leaves ctx sure off x old scope apart n k ns none whole keys class c;
+    value = λ old scope apart. value_leaves ctx sure off (lone x) applies old scope apart n k ns has none whole;
+    reference = λ old scope apart. reference_by ctx sure off (lone x) applies old scope apart n k ns has none whole;
+    initial = λ old scope apart. initial_leaves ctx sure off (lone x) applies old scope apart n k ns has none whole;
+    arguments = λ old scope apart. arguments_leaves ctx sure off (lone x) applies old scope apart n k ns has none whole;
+    elements = λ old scope apart. elements_leaves ctx sure off (lone x) applies old scope apart n k ns has none whole;
+    key = λ old scope apart. key_leaves ctx sure off (lone x) applies old scope apart n k ns none whole;
+    class_made = λ names named old scope apart. class_made_leaves ctx sure off (lone x) old scope apart n k ns none whole names named;
+    defined = λ class object old scope apart c o. defined_leaves ctx sure off (lone x) old scope apart n k ns none whole class object c o;
+    statics = λ keys class old scope apart c. statics_leaves ctx sure off (lone x) old scope apart n k ns none whole keys class c;
   }
 
-  layer_quiet : (n : Node) (k : Kind) (ns : List ClaimedNode) → Has ctx sure x n ns → HasNone ctx sure x n k ns → IsTaken ctx sure x k ns → Quiet ctx sure x (meaning_by n k (here ns))
+  layer_quiet : (n : Node) (k : Kind) (ns : List ClaimedNode) → Has ctx sure (lone x) n ns → HasNone ctx sure (lone x) n k ns → IsTaken ctx sure (lone x) k ns → Quiet ctx sure (lone x) (meaning_by n k (here ns))
   unfolding effects_by access_effects_by part_effects_by pure_callee_by
-  layer_quiet n kind.ParenExpr (e ∷ []) has none whole = ending_quiet (meaning e.0) (first_quiet ctx sure x e [] none whole)
+  layer_quiet n kind.ParenExpr (e ∷ []) has none whole = ending_quiet (meaning e.0) (first_quiet ctx sure (lone x) e [] none whole)
   layer_quiet n kind.TsAsExpr (e ∷ type ∷ []) has none whole = e.1.quiet none whole
   layer_quiet n kind.TsTypeAssertion (e ∷ type ∷ []) has none whole = e.1.quiet none whole
-  layer_quiet n kind.TsConstAssertion (e ∷ []) has none whole = first_quiet ctx sure x e [] none whole
-  layer_quiet n kind.TsNonNullExpr (e ∷ []) has none whole = first_quiet ctx sure x e [] none whole
+  layer_quiet n kind.TsConstAssertion (e ∷ []) has none whole = first_quiet ctx sure (lone x) e [] none whole
+  layer_quiet n kind.TsNonNullExpr (e ∷ []) has none whole = first_quiet ctx sure (lone x) e [] none whole
   layer_quiet n kind.TsInstantiation (e ∷ types ∷ []) has none whole = e.1.quiet none whole
   layer_quiet n kind.TsSatisfiesExpr (e ∷ type ∷ []) has none whole = e.1.quiet none whole
   layer_quiet n kind.TsTypeAnn ns has none whole = absurd (cc)
@@ -201,25 +206,27 @@ module _ (ctx : ExprCtx) (sure : Assumed) (off : ctx.is_unresolved_ref_safe ≡ 
   layer_quiet n kind.TsQualifiedName (left ∷ right ∷ []) has none whole = absurd (cc)
   layer_quiet n (kind.TsImportEqualsDecl false false) (name ∷ source ∷ []) has none whole = absurd (cc)
   layer_quiet n (kind.TsImportEqualsDecl true false) (name ∷ source ∷ []) has none whole = absurd (cc)
+  layer_quiet n (kind.TsEnumDecl false is_const) (name ∷ members ∷ []) has none whole = absurd (cc)
+  layer_quiet n kind.TsEnumMember (name ∷ init ∷ []) has none whole = absurd (cc)
   layer_quiet n k ns has none whole = either_quiet (has_no_effect k (here ns)) (no_effect_quiet n) (role_quiet n k ns has none whole)
 
   -- ---- objects of which members are read
 
   module _ (old : State) (scope : List Entered) (apart : Apart ctx sure scope) where
     abbrev around : ExecutionContext
-    around = within ctx sure x scope
+    around = within ctx sure (lone x) scope
 
     either_read : (b : Bool) (m k : Meaning) → LeavesFrom old Any RefersToNew (m.reference around) → LeavesFrom old Any RefersToNew (k.reference around) → LeavesFrom old Any RefersToNew ((cond b m k).reference around)
     either_read true m k hm hk = hm
     either_read false m k hm hk = hk
 
-    layer_read : (n : Node) (k : Kind) (ns : List ClaimedNode) → HasNone ctx sure x n k ns → read_by ctx x.known.declared sure k (marks ns) ≡ true → reading_may_call_by k n ≡ false
+    layer_read : (n : Node) (k : Kind) (ns : List ClaimedNode) → HasNone ctx sure (lone x) n k ns → read_by ctx x.known.declared sure k (marks ns) ≡ true → reading_may_call_by k n ≡ false
         → LeavesFrom old Any RefersToNew ((meaning_by n k (here ns)).reference around)
-    layer_read n kind.ObjectLit ns none read plain = read_reference ctx sure off x old scope apart n kind.ObjectLit ns none read plain
-    layer_read n kind.ClassExpr ns none read plain = read_reference ctx sure off x old scope apart n kind.ClassExpr ns none read plain
+    layer_read n kind.ObjectLit ns none read plain = read_reference ctx sure off (lone x) old scope apart n kind.ObjectLit ns none read plain
+    layer_read n kind.ClassExpr ns none read plain = read_reference ctx sure off (lone x) old scope apart n kind.ClassExpr ns none read plain
     layer_read n kind.FnExpr ns none read plain =
-        either_read (has_no_effect kind.FnExpr (here ns)) (no_effect n) (role_by n kind.FnExpr (here ns)) (outside_from old) (read_reference ctx sure off x old scope apart n kind.FnExpr ns none read plain)
-    layer_read n (kind.ArrowExpr is_async is_generator) ns none read plain = read_reference ctx sure off x old scope apart n (kind.ArrowExpr is_async is_generator) ns none read plain
+        either_read (has_no_effect kind.FnExpr (here ns)) (no_effect n) (role_by n kind.FnExpr (here ns)) (outside_from old) (read_reference ctx sure off (lone x) old scope apart n kind.FnExpr ns none read plain)
+    layer_read n (kind.ArrowExpr is_async is_generator) ns none read plain = read_reference ctx sure off (lone x) old scope apart n (kind.ArrowExpr is_async is_generator) ns none read plain
     layer_read n k ns none read plain = absurd (cc)
 
     -- ---- optional calls
@@ -228,21 +235,21 @@ module _ (ctx : ExprCtx) (sure : Assumed) (off : ctx.is_unresolved_ref_safe ≡ 
         → ((taken ctx x.known.declared sure callee.0).called ≡ true) × (is_taken ctx x.known.declared sure arguments.0 ≡ true) → (b : Bool) → is_function_expression (out-Node callee.0).kind ≡ b → (optional : Bool)
         → LeavesBy old (λ o. Readable (chained o)) ((meaning callee.0).chain around >>= λ o. continued o (λ r. callee_by around r >>= λ c. call_link optional c (meaning arguments.0) around))
     either_linked callee arguments none t true is optional =
-        let idle = called_idle ctx sure x callee.0 t.0 is in
+        let idle = called_idle ctx sure (lone x) callee.0 t.0 is in
         link_function_leaves old around (applies idle.0) (meaning arguments.0) (λ s. (arguments.1.quiet none.1 t.1).arguments s scope apart) optional callee.0 is idle.1
     either_linked callee arguments none t false is optional =
         link_leaves ctx old around (meaning arguments.0) ((arguments.1.quiet none.1 t.1).arguments old scope apart) optional callee.0
-        is (λ is'. apart (called_name ctx sure x callee.0 t.0 is')) (sym (callee-out ctx callee.0) ∙ none.0)
+        is (λ is'. apart (called_name ctx sure (lone x) callee.0 t.0 is')) (sym (callee-out ctx callee.0) ∙ none.0)
 
-    role_linked : (n : Node) (ns : List ClaimedNode) → HasNone ctx sure x n kind.OptCall ns → IsTaken ctx sure x kind.OptCall ns → (optional : Bool)
+    role_linked : (n : Node) (ns : List ClaimedNode) → HasNone ctx sure (lone x) n kind.OptCall ns → IsTaken ctx sure (lone x) kind.OptCall ns → (optional : Bool)
         → LeavesBy old (λ o. Readable (chained o)) ((role_by n kind.OptCall (here ns)).link optional around)
     unfolding effects_by access_effects_by pure_callee_by
     role_linked n (callee ∷ arguments ∷ types ∷ []) none whole optional =
-        either_linked callee arguments (none_called ctx sure off x applies old scope apart callee arguments none)
+        either_linked callee arguments (none_called ctx sure off (lone x) applies old scope apart callee arguments none)
         (both_true (taken ctx x.known.declared sure callee.0).called (is_taken ctx x.known.declared sure arguments.0) whole) (is_function_expression (out-Node callee.0).kind) refl optional
     role_linked n ns none whole optional = outside_leaves old
 
-    layer_linked : (n : Node) (k : Kind) (ns : List ClaimedNode) → HasNone ctx sure x n k ns → IsTaken ctx sure x k ns → is_optional_call k ≡ true → (optional : Bool)
+    layer_linked : (n : Node) (k : Kind) (ns : List ClaimedNode) → HasNone ctx sure (lone x) n k ns → IsTaken ctx sure (lone x) k ns → is_optional_call k ≡ true → (optional : Bool)
         → LeavesBy old (λ o. Readable (chained o)) ((meaning_by n k (here ns)).link optional around)
     layer_linked n kind.OptCall ns none whole is optional = role_linked n ns none whole optional
     layer_linked n k ns none whole is optional = absurd (cc)
@@ -253,14 +260,14 @@ module _ (ctx : ExprCtx) (sure : Assumed) (off : ctx.is_unresolved_ref_safe ≡ 
     either_class true m k names hm hk = hm
     either_class false m k names hm hk = hk
 
-    layer_class : (n : Node) (k : Kind) (ns : List ClaimedNode) → HasNone ctx sure x n k ns → IsTaken ctx sure x k ns → in_place_by true k (marks ns) ≡ true → (names : List Id) → NamesApart ctx sure names
+    layer_class : (n : Node) (k : Kind) (ns : List ClaimedNode) → HasNone ctx sure (lone x) n k ns → IsTaken ctx sure (lone x) k ns → in_place_by true k (marks ns) ≡ true → (names : List Id) → NamesApart ctx sure names
         → LeavesFrom old Any IsNew ((meaning_by n k (here ns)).class_made names around)
     unfolding effects_by access_effects_by part_effects_by pure_callee_by
-    layer_class n kind.ParenExpr (e ∷ []) none whole in_class names named = e.1.class_read none (first_whole ctx sure x e [] whole) in_class names named old scope apart
+    layer_class n kind.ParenExpr (e ∷ []) none whole in_class names named = e.1.class_read none (first_whole ctx sure (lone x) e [] whole) in_class names named old scope apart
     layer_class n kind.TsAsExpr (e ∷ type ∷ []) none whole in_class names named = e.1.class_read none whole in_class names named old scope apart
     layer_class n kind.TsTypeAssertion (e ∷ type ∷ []) none whole in_class names named = e.1.class_read none whole in_class names named old scope apart
-    layer_class n kind.TsConstAssertion (e ∷ []) none whole in_class names named = e.1.class_read none (first_whole ctx sure x e [] whole) in_class names named old scope apart
-    layer_class n kind.TsNonNullExpr (e ∷ []) none whole in_class names named = e.1.class_read none (first_whole ctx sure x e [] whole) in_class names named old scope apart
+    layer_class n kind.TsConstAssertion (e ∷ []) none whole in_class names named = e.1.class_read none (first_whole ctx sure (lone x) e [] whole) in_class names named old scope apart
+    layer_class n kind.TsNonNullExpr (e ∷ []) none whole in_class names named = e.1.class_read none (first_whole ctx sure (lone x) e [] whole) in_class names named old scope apart
     layer_class n kind.TsInstantiation (e ∷ types ∷ []) none whole in_class names named = e.1.class_read none whole in_class names named old scope apart
     layer_class n kind.TsSatisfiesExpr (e ∷ type ∷ []) none whole in_class names named = e.1.class_read none whole in_class names named old scope apart
     layer_class n kind.TsTypeAnn ns none whole in_class names named = absurd (cc)
@@ -269,8 +276,10 @@ module _ (ctx : ExprCtx) (sure : Assumed) (off : ctx.is_unresolved_ref_safe ≡ 
     layer_class n kind.TsQualifiedName (left ∷ right ∷ []) none whole in_class names named = absurd (cc)
     layer_class n (kind.TsImportEqualsDecl false false) (name ∷ source ∷ []) none whole in_class names named = absurd (cc)
     layer_class n (kind.TsImportEqualsDecl true false) (name ∷ source ∷ []) none whole in_class names named = absurd (cc)
+    layer_class n (kind.TsEnumDecl false is_const) (name ∷ members ∷ []) none whole in_class names named = absurd (cc)
+    layer_class n kind.TsEnumMember (name ∷ init ∷ []) none whole in_class names named = absurd (cc)
     layer_class n k ns none whole in_class names named =
-        either_class (has_no_effect k (here ns)) (no_effect n) (role_by n k (here ns)) names (outside_from old) (class_read_by ctx sure off x n k ns none whole in_class names named old scope apart)
+        either_class (has_no_effect k (here ns)) (no_effect n) (role_by n k (here ns)) names (outside_from old) (class_read_by ctx sure off (lone x) n k ns none whole in_class names named old scope apart)
 
     -- ---- properties, members and static fields
 
@@ -283,14 +292,14 @@ module _ (ctx : ExprCtx) (sure : Assumed) (off : ctx.is_unresolved_ref_safe ≡ 
           → Keeps old kept ((meaning e.0).defined kept object around)
       wrapped_in e in_this none whole = e.1.defines none whole is_class in_this kept object place old scope apart new new'
 
-    layer_defines : (n : Node) (k : Kind) (ns : List ClaimedNode) → HasNone ctx sure x n k ns → IsTaken ctx sure x k ns → (is_class : Bool) → in_place_by is_class k (marks ns) ≡ true
+    layer_defines : (n : Node) (k : Kind) (ns : List ClaimedNode) → HasNone ctx sure (lone x) n k ns → IsTaken ctx sure (lone x) k ns → (is_class : Bool) → in_place_by is_class k (marks ns) ≡ true
         → (kept object : ℕ) → Place is_class kept object → NewObject old kept → NewObject old object → Keeps old kept ((meaning_by n k (here ns)).defined kept object around)
     unfolding effects_by access_effects_by part_effects_by pure_callee_by
-    layer_defines n kind.ParenExpr (e ∷ []) none whole is_class in_this kept object place new new' = wrapped_in is_class kept object place new new' e in_this none (first_whole ctx sure x e [] whole)
+    layer_defines n kind.ParenExpr (e ∷ []) none whole is_class in_this kept object place new new' = wrapped_in is_class kept object place new new' e in_this none (first_whole ctx sure (lone x) e [] whole)
     layer_defines n kind.TsAsExpr (e ∷ type ∷ []) none whole is_class in_this kept object place new new' = wrapped_in is_class kept object place new new' e in_this none whole
     layer_defines n kind.TsTypeAssertion (e ∷ type ∷ []) none whole is_class in_this kept object place new new' = wrapped_in is_class kept object place new new' e in_this none whole
-    layer_defines n kind.TsConstAssertion (e ∷ []) none whole is_class in_this kept object place new new' = wrapped_in is_class kept object place new new' e in_this none (first_whole ctx sure x e [] whole)
-    layer_defines n kind.TsNonNullExpr (e ∷ []) none whole is_class in_this kept object place new new' = wrapped_in is_class kept object place new new' e in_this none (first_whole ctx sure x e [] whole)
+    layer_defines n kind.TsConstAssertion (e ∷ []) none whole is_class in_this kept object place new new' = wrapped_in is_class kept object place new new' e in_this none (first_whole ctx sure (lone x) e [] whole)
+    layer_defines n kind.TsNonNullExpr (e ∷ []) none whole is_class in_this kept object place new new' = wrapped_in is_class kept object place new new' e in_this none (first_whole ctx sure (lone x) e [] whole)
     layer_defines n kind.TsInstantiation (e ∷ types ∷ []) none whole is_class in_this kept object place new new' = wrapped_in is_class kept object place new new' e in_this none whole
     layer_defines n kind.TsSatisfiesExpr (e ∷ type ∷ []) none whole is_class in_this kept object place new new' = wrapped_in is_class kept object place new new' e in_this none whole
     layer_defines n kind.TsTypeAnn ns none whole is_class in_this kept object place new new' = absurd (cc)
@@ -299,23 +308,25 @@ module _ (ctx : ExprCtx) (sure : Assumed) (off : ctx.is_unresolved_ref_safe ≡ 
     layer_defines n kind.TsQualifiedName (left ∷ right ∷ []) none whole is_class in_this kept object place new new' = absurd (cc)
     layer_defines n (kind.TsImportEqualsDecl false false) (name ∷ source ∷ []) none whole is_class in_this kept object place new new' = absurd (cc)
     layer_defines n (kind.TsImportEqualsDecl true false) (name ∷ source ∷ []) none whole is_class in_this kept object place new new' = absurd (cc)
+    layer_defines n (kind.TsEnumDecl false is_const) (name ∷ members ∷ []) none whole is_class in_this kept object place new new' = absurd (cc)
+    layer_defines n kind.TsEnumMember (name ∷ init ∷ []) none whole is_class in_this kept object place new new' = absurd (cc)
     layer_defines n k ns none whole is_class in_this kept object place new new' =
         either_defines (has_no_effect k (here ns)) (no_effect n) (role_by n k (here ns)) kept object (give_keeps old kept [])
-        (defines_by ctx sure off x old scope apart n k ns none whole is_class in_this kept object place new new')
+        (defines_by ctx sure off (lone x) old scope apart n k ns none whole is_class in_this kept object place new new')
 
     either_sets : (b : Bool) (m k : Meaning) (keys : List (List ℕ)) (kept : ℕ) → Keeps old kept (m.statics keys (Own kept) around) → Keeps old kept (k.statics keys (Own kept) around)
         → Keeps old kept ((cond b m k).statics keys (Own kept) around)
     either_sets true m k keys kept hm hk = hm
     either_sets false m k keys kept hm hk = hk
 
-    layer_sets : (n : Node) (k : Kind) (ns : List ClaimedNode) → HasNone ctx sure x n k ns → IsTaken ctx sure x k ns → (keys : List (List ℕ)) (kept : ℕ) → NewObject old kept
+    layer_sets : (n : Node) (k : Kind) (ns : List ClaimedNode) → HasNone ctx sure (lone x) n k ns → IsTaken ctx sure (lone x) k ns → (keys : List (List ℕ)) (kept : ℕ) → NewObject old kept
         → Keeps old kept ((meaning_by n k (here ns)).statics keys (Own kept) around)
     unfolding effects_by access_effects_by part_effects_by pure_callee_by
-    layer_sets n kind.ParenExpr (e ∷ []) none whole keys kept new = e.1.sets none (first_whole ctx sure x e [] whole) keys kept old scope apart new
+    layer_sets n kind.ParenExpr (e ∷ []) none whole keys kept new = e.1.sets none (first_whole ctx sure (lone x) e [] whole) keys kept old scope apart new
     layer_sets n kind.TsAsExpr (e ∷ type ∷ []) none whole keys kept new = e.1.sets none whole keys kept old scope apart new
     layer_sets n kind.TsTypeAssertion (e ∷ type ∷ []) none whole keys kept new = e.1.sets none whole keys kept old scope apart new
-    layer_sets n kind.TsConstAssertion (e ∷ []) none whole keys kept new = e.1.sets none (first_whole ctx sure x e [] whole) keys kept old scope apart new
-    layer_sets n kind.TsNonNullExpr (e ∷ []) none whole keys kept new = e.1.sets none (first_whole ctx sure x e [] whole) keys kept old scope apart new
+    layer_sets n kind.TsConstAssertion (e ∷ []) none whole keys kept new = e.1.sets none (first_whole ctx sure (lone x) e [] whole) keys kept old scope apart new
+    layer_sets n kind.TsNonNullExpr (e ∷ []) none whole keys kept new = e.1.sets none (first_whole ctx sure (lone x) e [] whole) keys kept old scope apart new
     layer_sets n kind.TsInstantiation (e ∷ types ∷ []) none whole keys kept new = e.1.sets none whole keys kept old scope apart new
     layer_sets n kind.TsSatisfiesExpr (e ∷ type ∷ []) none whole keys kept new = e.1.sets none whole keys kept old scope apart new
     layer_sets n kind.TsTypeAnn ns none whole keys kept new = absurd (cc)
@@ -324,28 +335,30 @@ module _ (ctx : ExprCtx) (sure : Assumed) (off : ctx.is_unresolved_ref_safe ≡ 
     layer_sets n kind.TsQualifiedName (left ∷ right ∷ []) none whole keys kept new = absurd (cc)
     layer_sets n (kind.TsImportEqualsDecl false false) (name ∷ source ∷ []) none whole keys kept new = absurd (cc)
     layer_sets n (kind.TsImportEqualsDecl true false) (name ∷ source ∷ []) none whole keys kept new = absurd (cc)
+    layer_sets n (kind.TsEnumDecl false is_const) (name ∷ members ∷ []) none whole keys kept new = absurd (cc)
+    layer_sets n kind.TsEnumMember (name ∷ init ∷ []) none whole keys kept new = absurd (cc)
     layer_sets n k ns none whole keys kept new =
-        either_sets (has_no_effect k (here ns)) (no_effect n) (role_by n k (here ns)) keys kept (give_keeps old kept keys) (sets_by ctx sure off x old scope apart kept new n k ns none whole keys)
+        either_sets (has_no_effect k (here ns)) (no_effect n) (role_by n k (here ns)) keys kept (give_keeps old kept keys) (sets_by ctx sure off (lone x) old scope apart kept new n k ns none whole keys)
 
   -- ---- all nodes
 
-  module _ (parts : Node-F Node) (ns : List ClaimedNode) (is : nodes ctx sure x ns ≡ parts.children) where
+  module _ (parts : Node-F Node) (ns : List ClaimedNode) (is : nodes ctx sure (lone x) ns ≡ parts.children) where
     abbrev this : Node
     this = roll-Node parts
 
     same_meaning : meaning this ≡ meaning_by this parts.kind (here ns)
     same_meaning = meaning-roll parts ∙ ap (λ l. meaning_by this parts.kind (map meaning l)) (sym is)
 
-    has_these : Has ctx sure x this ns
+    has_these : Has ctx sure (lone x) this ns
     has_these = ap (λ (z : Node-F Node). z.children) (out-roll-Node parts) ∙ sym is
 
     same_marks : taken ctx x.known.declared sure this ≡ taken_by ctx x.known.declared sure parts.kind this (marks ns)
-    same_marks = taken-roll ctx sure x parts ∙ ap (λ l. taken_by ctx x.known.declared sure parts.kind this (map (taken ctx x.known.declared sure) l)) (sym is)
+    same_marks = taken-roll ctx sure (lone x) parts ∙ ap (λ l. taken_by ctx x.known.declared sure parts.kind this (map (taken ctx x.known.declared sure) l)) (sym is)
 
     mark : (f : Taken → Bool) → f (taken ctx x.known.declared sure this) ≡ true → f (taken_by ctx x.known.declared sure parts.kind this (marks ns)) ≡ true
     mark f h = sym (ap f same_marks) ∙ h
 
-    none_here : (judged ctx this).effects ≡ false → HasNone ctx sure x this parts.kind ns
+    none_here : (judged ctx this).effects ≡ false → HasNone ctx sure (lone x) this parts.kind ns
     none_here none =
         subst (λ l. (not (pure_callee_by ctx parts.kind this) && effects_by ctx parts.kind this (map (judged ctx) l)) ≡ false) (sym is) (sym (effects-roll ctx parts) ∙ none)
 
@@ -353,24 +366,24 @@ module _ (ctx : ExprCtx) (sure : Assumed) (off : ctx.is_unresolved_ref_safe ≡ 
     place_mark true h = mark (λ t. t.in_class) h
     place_mark false h = mark (λ t. t.in_object) h
 
-    claim_roll : Claim ctx sure x this
+    claim_roll : Claim ctx sure (lone x) this
     claim_roll = record {
-      made = subst (Makes ctx sure x) (sym same_meaning) (layer_makes this parts.kind ns);
+      made = subst (Makes ctx sure (lone x)) (sym same_meaning) (layer_makes this parts.kind ns);
       named = λ h. subst (λ m. are_apart ctx m.names ≡ true) (sym same_meaning) (layer_named this parts.kind ns (mark (λ t. t.named) h));
       missing = λ h. subst (λ m. m.is_absent ≡ true) (sym same_meaning) (layer_missing this parts.kind ns (mark (λ t. t.missing) h));
-      quiet = λ none whole. subst (Quiet ctx sure x) (sym same_meaning) (layer_quiet this parts.kind ns has_these (none_here none) (mark (λ t. t.whole) whole));
-      read = λ none read plain old scope apart. subst (λ m. LeavesFrom old Any RefersToNew (m.reference (within ctx sure x scope))) (sym same_meaning)
+      quiet = λ none whole. subst (Quiet ctx sure (lone x)) (sym same_meaning) (layer_quiet this parts.kind ns has_these (none_here none) (mark (λ t. t.whole) whole));
+      read = λ none read plain old scope apart. subst (λ m. LeavesFrom old Any RefersToNew (m.reference (within ctx sure (lone x) scope))) (sym same_meaning)
           (layer_read old scope apart this parts.kind ns (none_here none) (mark (λ t. t.read) read)
           (subst (λ (z : Node-F Node). reading_may_call_by z.kind this ≡ false) (out-roll-Node parts) (not_true (reading_may_call_by (out-Node this).kind this) plain)));
-      class_read = λ none whole in_class names named old scope apart. subst (λ m. LeavesFrom old Any IsNew (m.class_made names (within ctx sure x scope))) (sym same_meaning)
+      class_read = λ none whole in_class names named old scope apart. subst (λ m. LeavesFrom old Any IsNew (m.class_made names (within ctx sure (lone x) scope))) (sym same_meaning)
           (layer_class old scope apart this parts.kind ns (none_here none) (mark (λ t. t.whole) whole) (mark (λ t. t.in_class) in_class) names named);
-      defines = λ none whole is_class in_this kept object place old scope apart new new'. subst (λ m. Keeps old kept (m.defined kept object (within ctx sure x scope))) (sym same_meaning)
+      defines = λ none whole is_class in_this kept object place old scope apart new new'. subst (λ m. Keeps old kept (m.defined kept object (within ctx sure (lone x) scope))) (sym same_meaning)
           (layer_defines old scope apart this parts.kind ns (none_here none) (mark (λ t. t.whole) whole) is_class (place_mark is_class in_this) kept object place new new');
-      sets = λ none whole keys kept old scope apart new. subst (λ m. Keeps old kept (m.statics keys (Own kept) (within ctx sure x scope))) (sym same_meaning)
+      sets = λ none whole keys kept old scope apart new. subst (λ m. Keeps old kept (m.statics keys (Own kept) (within ctx sure (lone x) scope))) (sym same_meaning)
           (layer_sets old scope apart this parts.kind ns (none_here none) (mark (λ t. t.whole) whole) keys kept new);
-      linked = λ none whole is_call optional old scope apart. subst (λ m. LeavesBy old (λ o. Readable (chained o)) (m.link optional (within ctx sure x scope))) (sym same_meaning)
+      linked = λ none whole is_call optional old scope apart. subst (λ m. LeavesBy old (λ o. Readable (chained o)) (m.link optional (within ctx sure (lone x) scope))) (sym same_meaning)
           (layer_linked old scope apart this parts.kind ns (none_here none) (mark (λ t. t.whole) whole) (subst (λ (z : Node-F Node). is_optional_call z.kind ≡ true) (out-roll-Node parts) is_call) optional);
     }
 
-  pub claim : (n : Node) → Claim ctx sure x n
-  claim = ind-Node (Claim ctx sure x) (λ parts y is. claim_roll parts y.children (ap (λ z. z.children) is))
+  pub claim : (n : Node) → Claim ctx sure (lone x) n
+  claim = ind-Node (Claim ctx sure (lone x)) (λ parts y is. claim_roll parts y.children (ap (λ z. z.children) is))

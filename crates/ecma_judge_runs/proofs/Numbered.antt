@@ -31,6 +31,7 @@ use Rattle.ecma_runs.specs.Evaluation.{meaning_by, meaning}
 use Rattle.ecma_runs.proofs.Layer.{meaning_out}
 use Rattle.ecma_judge_runs.specs.InState.{HasArrayNumber}
 use Rattle.ecma_judge_runs.specs.Known.{HasType, ConstructsObjects, declares_no_global}
+use Rattle.ecma_judge_runs.proofs.Lone.{lone}
 use Rattle.ecma_judge_runs.proofs.Giving.{Gave, GivesBy}
 use Rattle.ecma_judge_runs.proofs.Keeping.{FollowsIn}
 use Rattle.ecma_judge_runs.proofs.Shapes.{untrue}
@@ -151,9 +152,9 @@ array_here ctx e number is known =
 abbrev pub IsArrayNumber : JsNumber → Value → State → Type 0
 IsArrayNumber number v s = (o : ℕ) → v ≡ Own o → HasArrayNumber s v number
 
-module _ (ctx : ExprCtx) (x : ExecutionContext) (apart : declares_no_global ctx x.scope ≡ true) (steadies : (n : Node) → Steady ctx (IsSorted ctx x) x n) (objects : ConstructsObjects x) where
+module _ (ctx : ExprCtx) (x : ExecutionContext) (apart : declares_no_global ctx x.scope ≡ true) (steadies : (n : Node) → Steady ctx (IsSorted ctx (lone x)) (lone x) n) (objects : ConstructsObjects (lone x)) where
   record Numbered (n : Node) : Type 0 where
-    pub number : IsSorted ctx x n → (number : JsNumber) → (judged ctx n).number.1 ≡ Known number → GivesIn (IsArrayNumber number) ((meaning n).value x)
+    pub number : IsSorted ctx (lone x) n → (number : JsNumber) → (judged ctx n).number.1 ≡ Known number → GivesIn (IsArrayNumber number) ((meaning n).value (lone x))
 
   abbrev NumberedNode : Type 0
   NumberedNode = (n : Node) × Numbered n
@@ -161,24 +162,24 @@ module _ (ctx : ExprCtx) (x : ExecutionContext) (apart : declares_no_global ctx 
   abbrev nodes : List NumberedNode → List Node
   nodes ns = map (λ e. e.0) ns
 
-  array_numbered : (n : Node) → IsSorted ctx x n → (out-Node n).kind ≡ kind.ArrayLit → (number : JsNumber) → (judged ctx n).number.1 ≡ Known number → GivesIn (IsArrayNumber number) ((meaning n).value x)
+  array_numbered : (n : Node) → IsSorted ctx (lone x) n → (out-Node n).kind ≡ kind.ArrayLit → (number : JsNumber) → (judged ctx n).number.1 ≡ Known number → GivesIn (IsArrayNumber number) ((meaning n).value (lone x))
   array_numbered n h is number known =
       let f = array_here ctx n number is known in
-      of_settled (λ v s a o e. (f.0, a, f.2)) (known_array ctx x apart steadies n h is f.0 f.1)
+      of_settled (λ v s a o e. (f.0, a, f.2)) (known_array ctx (lone x) apart steadies n h is f.0 f.1)
 
   last_step : (a : ℕ) → suc (suc a) - 1 ≡ suc (suc a - 1)
   last_step a = omega arith
 
-  sequence_numbered : (ns : List NumberedNode) → EachOf (IsSorted ctx x) (nodes ns) → (number : JsNumber) → (kid (map (judged ctx) (nodes ns)) (last_index (length (nodes ns)))).number.1 ≡ Known number
-      → GivesIn (IsArrayNumber number) (sequence (map meaning (nodes ns)) x)
+  sequence_numbered : (ns : List NumberedNode) → EachOf (IsSorted ctx (lone x)) (nodes ns) → (number : JsNumber) → (kid (map (judged ctx) (nodes ns)) (last_index (length (nodes ns)))).number.1 ≡ Known number
+      → GivesIn (IsArrayNumber number) (sequence (map meaning (nodes ns)) (lone x))
   sequence_numbered [] h number known = record { at = λ s. tt }
   sequence_numbered (m ∷ []) h number known = m.1.number h.0 number known
   sequence_numbered (m ∷ p ∷ ns) h number known =
-      behind_given ((meaning m.0).value x) (λ _. sequence_numbered (p ∷ ns) h.1 number
+      behind_given ((meaning m.0).value (lone x)) (λ _. sequence_numbered (p ∷ ns) h.1 number
       (subst (λ i. (kid (map (judged ctx) (nodes (m ∷ p ∷ ns))) i).number.1 ≡ Known number) (last_step (length (nodes ns))) known))
 
-  list_numbered : (n : Node) → IsSorted ctx x n → (out-Node n).kind ≡ kind.SeqExpr → (ns : List NumberedNode) → nodes ns ≡ (out-Node n).children → (number : JsNumber) → (judged ctx n).number.1 ≡ Known number
-      → GivesIn (IsArrayNumber number) ((meaning n).value x)
+  list_numbered : (n : Node) → IsSorted ctx (lone x) n → (out-Node n).kind ≡ kind.SeqExpr → (ns : List NumberedNode) → nodes ns ≡ (out-Node n).children → (number : JsNumber) → (judged ctx n).number.1 ≡ Known number
+      → GivesIn (IsArrayNumber number) ((meaning n).value (lone x))
   unfolding number_by
   list_numbered n h is ns same number known =
       let own = purity_of (judged ctx n).effects in
@@ -186,18 +187,18 @@ module _ (ctx : ExprCtx) (x : ExecutionContext) (apart : declares_no_global ctx 
       meaning_out n ∙ ap (λ l. meaning_by n l (map meaning (out-Node n).children)) is ∙ ap (λ l. meaning_by n kind.SeqExpr (map meaning l)) (sym same) in
       let told : (judged ctx n).number ≡ number_by ctx own kind.SeqExpr n (kids_of ctx n) = number-out ctx n ∙ ap (λ k. number_by ctx own k n (kids_of ctx n)) is in
       let last = sym (ap (λ (z : Purity × KnownOr JsNumber). z.1) told) ∙ known in
-      subst (λ m. GivesIn (IsArrayNumber number) (m.value x)) (sym mean)
-      (sequence_numbered ns (subst (EachOf (IsSorted ctx x)) (sym same) (sorted_each ctx x n h (subst (λ k. is_parted k ≡ true) (sym is) refl))) number
+      subst (λ m. GivesIn (IsArrayNumber number) (m.value (lone x))) (sym mean)
+      (sequence_numbered ns (subst (EachOf (IsSorted ctx (lone x))) (sym same) (sorted_each ctx (lone x) n h (subst (λ k. is_parted k ≡ true) (sym is) refl))) number
       (subst (λ l. (kid (map (judged ctx) l) (last_index (length l))).number.1 ≡ Known number) (sym same) last))
 
-  other_numbered : (n : Node) → IsSorted ctx x n → is_made (out-Node n).kind ≡ false → (number : JsNumber) → (judged ctx n).number.1 ≡ Known number → GivesIn (IsArrayNumber number) ((meaning n).value x)
+  other_numbered : (n : Node) → IsSorted ctx (lone x) n → is_made (out-Node n).kind ≡ false → (number : JsNumber) → (judged ctx n).number.1 ≡ Known number → GivesIn (IsArrayNumber number) ((meaning n).value (lone x))
   other_numbered n h m number known =
       of_gives (λ v s j o is. absurd (number_object ctx (purity_of (judged ctx n).effects) n (kids_of ctx n) number o (out-Node n).kind m
       (sym (ap (λ (z : Purity × KnownOr JsNumber). z.1) (number-out ctx n)) ∙ known) (subst (λ w. HasType (type_by ctx (out-Node n).kind n (kids_of ctx n)) w) is (subst (λ z. HasType z v) (type-out ctx n) j.type))))
-      ((valued ctx true x (λ f. objects) apart n).value (shape_valued n h.shape h.has))
+      ((valued ctx true (lone x) (λ f. objects) apart n).value (shape_valued n h.shape h.has))
 
-  number_at : (n : Node) → IsSorted ctx x n → (k : Kind) → (out-Node n).kind ≡ k → (ns : List NumberedNode) → nodes ns ≡ (out-Node n).children → (number : JsNumber) → (judged ctx n).number.1 ≡ Known number
-      → GivesIn (IsArrayNumber number) ((meaning n).value x)
+  number_at : (n : Node) → IsSorted ctx (lone x) n → (k : Kind) → (out-Node n).kind ≡ k → (ns : List NumberedNode) → nodes ns ≡ (out-Node n).children → (number : JsNumber) → (judged ctx n).number.1 ≡ Known number
+      → GivesIn (IsArrayNumber number) ((meaning n).value (lone x))
   number_at n h kind.ArrayLit is ns same number known = array_numbered n h is number known
   number_at n h kind.SeqExpr is ns same number known = list_numbered n h is ns same number known
   number_at n h k is ns same number known = other_numbered n h (ap is_made is) number known
@@ -207,5 +208,5 @@ module _ (ctx : ExprCtx) (x : ExecutionContext) (apart : declares_no_global ctx 
     number = λ h number known. number_at (roll-Node parts) h (out-Node (roll-Node parts)).kind refl y.children (ap (λ z. z.children) is ∙ sym (ap (λ (z : Node-F Node). z.children) (out-roll-Node parts))) number known;
   })
 
-  pub known_number : (n : Node) → IsSorted ctx x n → (number : JsNumber) → (judged ctx n).number.1 ≡ Known number → GivesIn (IsArrayNumber number) ((meaning n).value x)
+  pub known_number : (n : Node) → IsSorted ctx (lone x) n → (number : JsNumber) → (judged ctx n).number.1 ≡ Known number → GivesIn (IsArrayNumber number) ((meaning n).value (lone x))
   known_number n h number known = (numbered n).number h number known

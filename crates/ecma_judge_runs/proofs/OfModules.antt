@@ -17,11 +17,14 @@ use Rattle.ecma_runs.specs.State.{Id, Entered, State}
 use Rattle.ecma_runs.specs.Run.{Done, Run}
 use Rattle.ecma_runs.specs.Meaning.{ExecutionContext}
 use Rattle.ecma_runs.specs.Evaluation.{meaning}
+use Rattle.ecma_runs.specs.Laws.{state_behind}
+use Rattle.ecma_judge_runs.specs.Still.{Still}
 use Rattle.ecma_judge_runs.specs.Called.{is_function_expression, is_loose, are_apart, declares_no_loose, AppliesFunctions, IsSo, MayBeCalled}
 use Rattle.ecma_judge_runs.specs.Idle.{is_harmless}
 use Rattle.ecma_judge_runs.specs.Known.{HasNumber, declares_no_global}
 use Rattle.ecma_judge_runs.specs.InState.{HasTextIn}
 use Rattle.ecma_judge_runs.specs.OfModules.{HasNames, IsInModule, SortedExpressionsAreTaken, SortedExpressionsAreValued, WhatHasNoEffectsInModulesIsStill, ClassesWithoutEffectsInModulesAreStill, CallsOfPureCalleesInModulesAreStill, WhatIsKnownInModulesIsSo, WhatIsPureInModulesIsStill, WhatIsAPureNumberInModulesIsStill, WhatHasAKnownTextInModulesIsStill, KnownTextsInModulesAreSo, KnownNumbersInModulesAreSo}
+use Rattle.ecma_judge_runs.proofs.Lone.{lone, to_lone, from_lone}
 use Rattle.ecma_judge_runs.proofs.Both.{both_true, two_true}
 use Rattle.ecma_judge_runs.proofs.Shapes.{Below, shaped, untrue, function_by_kind}
 use Rattle.ecma_judge_runs.proofs.Sorted.{all, sortable}
@@ -68,11 +71,11 @@ sorted_expressions_are_valued e sorted = shape_valued e (one sort.Expr) sorted
 
 pub what_has_no_effects_in_modules_is_still : WhatHasNoEffectsInModulesIsStill
 what_has_no_effects_in_modules_is_still ctx e x s inside h none =
-    what_has_no_effects_is_still ctx all e x s inside.off (so_in ctx x inside) ((sortable ctx x e).whole (one sort.Expr) h.sorted none h.told) none
+    what_has_no_effects_is_still ctx all e x s inside.no_enums inside.off (so_in ctx x inside) ((sortable ctx x e).whole (one sort.Expr) h.sorted none h.told) none
 
 pub classes_without_effects_in_modules_are_still : ClassesWithoutEffectsInModulesAreStill
 classes_without_effects_in_modules_are_still ctx class names x s inside apart h none =
-    classes_without_effects_are_still ctx all class names x s inside.off (so_in ctx x inside) (λ is. apart) ((sortable ctx x class).whole (one sort.Class) h.sorted none h.told) none
+    classes_without_effects_are_still ctx all class names x s inside.no_enums inside.off (so_in ctx x inside) (λ is. apart) ((sortable ctx x class).whole (one sort.Class) h.sorted none h.told) none
 
 -- a function expression that is said to do nothing has the parts of one
 idle_function : (ctx : ExprCtx) (n : Node) (k : Kind) (cs : List Node) → (out-Node n).children ≡ cs → Below k (one sort.Expr) cs → pure_callee_by ctx k n ≡ true → is_function_expression k ≡ true → passes_at is_harmless 1 n ≡ true
@@ -85,28 +88,38 @@ may_be_called ctx e x inside sorted pure is =
     (idle_function ctx e (out-Node e).kind (out-Node e).children refl (shaped e (one sort.Expr) sorted).1 (sym (callee-out ctx e) ∙ pure) is, applies_in ctx x inside)
 
 pub calls_of_pure_callees_in_modules_are_still : CallsOfPureCalleesInModulesAreStill
-calls_of_pure_callees_in_modules_are_still ctx e x arguments s inside sorted pure = calls_of_pure_callees_are_still ctx e x arguments s inside.names (may_be_called ctx e x inside sorted pure) pure
+calls_of_pure_callees_in_modules_are_still ctx e x arguments s inside sorted pure = calls_of_pure_callees_are_still ctx e x arguments s inside.no_enums inside.names (may_be_called ctx e x inside sorted pure) pure
 
 pub what_is_known_in_modules_is_so : WhatIsKnownInModulesIsSo
-what_is_known_in_modules_is_so ctx e x s t v objects apart sorted done = what_is_known_is_so ctx true e x s t v (λ is. objects) apart (shape_valued e (one sort.Expr) sorted) done
+what_is_known_in_modules_is_so ctx e x s t v bare objects apart sorted done = what_is_known_is_so ctx true e x s t v bare (λ is. objects) apart (shape_valued e (one sort.Expr) sorted) done
 
 -- ---- what is pure
 
-module _ (ctx : ExprCtx) (x : ExecutionContext) (inside : IsInModule ctx x) where
-  steady_in : (n : Node) → Steady ctx (IsSorted ctx x) x n
-  steady_in n = steady ctx (IsSorted ctx x) x (sorted_asks ctx inside.off x (no_global ctx x.scope inside.names) (λ is. inside.names) (λ is. applies_in ctx x inside)) n
+-- where nothing is known of enums
+inside_alone : (ctx : ExprCtx) (x : ExecutionContext) → IsInModule ctx x → IsInModule ctx (lone x)
+inside_alone ctx x inside = to_lone x inside.no_enums (λ z. IsInModule ctx z) inside
 
-  sorted_in : (e : Node) → HasNames ctx x.known.declared sort.Expr e → IsSorted ctx x e
+module _ (ctx : ExprCtx) (x : ExecutionContext) (inside : IsInModule ctx (lone x)) where
+  steady_in : (n : Node) → Steady ctx (IsSorted ctx (lone x)) (lone x) n
+  steady_in n = steady ctx (IsSorted ctx (lone x)) (lone x) (sorted_asks ctx inside.off (lone x) (no_global ctx x.scope inside.names) (λ is. inside.names) (λ is. applies_in ctx (lone x) inside)) n
+
+  sorted_in : (e : Node) → HasNames ctx x.known.declared sort.Expr e → IsSorted ctx (lone x) e
   sorted_in e h = record { shape = one sort.Expr; has = h.sorted; told = h.told }
 
 pub what_is_pure_in_modules_is_still : WhatIsPureInModulesIsStill
-what_is_pure_in_modules_is_still ctx e x s inside h pure = still_behind ((meaning e).value x) s (((steady_in ctx x inside e).truth (sorted_in ctx x inside e h) pure).leaves s)
+what_is_pure_in_modules_is_still ctx e x s inside h pure =
+    from_lone x inside.no_enums (λ z. Still s (state_behind ((meaning e).value z s)))
+    (still_behind ((meaning e).value (lone x)) s (((steady_in ctx x (inside_alone ctx x inside) e).truth (sorted_in ctx x (inside_alone ctx x inside) e h) pure).leaves s))
 
 pub what_is_a_pure_number_in_modules_is_still : WhatIsAPureNumberInModulesIsStill
-what_is_a_pure_number_in_modules_is_still ctx e x s inside h pure = still_behind ((meaning e).value x) s (((steady_in ctx x inside e).number (sorted_in ctx x inside e h) pure).leaves s)
+what_is_a_pure_number_in_modules_is_still ctx e x s inside h pure =
+    from_lone x inside.no_enums (λ z. Still s (state_behind ((meaning e).value z s)))
+    (still_behind ((meaning e).value (lone x)) s (((steady_in ctx x (inside_alone ctx x inside) e).number (sorted_in ctx x (inside_alone ctx x inside) e h) pure).leaves s))
 
 pub what_has_a_known_text_in_modules_is_still : WhatHasAKnownTextInModulesIsStill
-what_has_a_known_text_in_modules_is_still ctx e x text s inside h known = still_behind ((meaning e).value x) s ((steady_in ctx x inside e).text (sorted_in ctx x inside e h) text known s).0
+what_has_a_known_text_in_modules_is_still ctx e x text s inside h known =
+    from_lone x inside.no_enums (λ z. Still s (state_behind ((meaning e).value z s)))
+    (still_behind ((meaning e).value (lone x)) s ((steady_in ctx x (inside_alone ctx x inside) e).text (sorted_in ctx x (inside_alone ctx x inside) e h) text known s).0)
 
 -- ---- texts and Numbers in the state behind
 
@@ -120,11 +133,14 @@ text_in ctx e text v t (inr a) = inr a.0
 pub known_texts_in_modules_are_so : KnownTextsInModulesAreSo
 known_texts_in_modules_are_so ctx e x text s t v inside h known done =
     text_in ctx e text v t
-    (given_in s t (IsText ctx e text) ((meaning e).value x) v
-    (known_text ctx x (no_global ctx x.scope inside.names) (steady_in ctx x inside) e (sorted_in ctx x inside e h) (item_no_list One sort.Expr (out-Node e).kind (shaped e (one sort.Expr) h.sorted).0) text known) done)
+    (given_in s t (IsText ctx e text) ((meaning e).value (lone x)) v
+    (known_text ctx x (no_global ctx x.scope inside.names) (steady_in ctx x (inside_alone ctx x inside)) e (sorted_in ctx x (inside_alone ctx x inside) e h)
+    (item_no_list One sort.Expr (out-Node e).kind (shaped e (one sort.Expr) h.sorted).0) text known) (to_lone x inside.no_enums (λ z. (meaning e).value z s ≡ Done v t) done))
 
 pub known_numbers_in_modules_are_so : KnownNumbersInModulesAreSo
 known_numbers_in_modules_are_so ctx e x number s t v objects inside h known done = record {
-  itself = λ n is. subst (λ k. HasNumber k v) known (what_is_known_in_modules_is_so ctx e x s t v objects (no_global ctx x.scope inside.names) h.sorted done).number n is;
-  as_array = given_there (IsArrayNumber number) ((meaning e).value x) s t v (known_number ctx x (no_global ctx x.scope inside.names) (steady_in ctx x inside) objects e (sorted_in ctx x inside e h) number known) done;
+  itself = λ n is. subst (λ k. HasNumber k v) known (what_is_known_in_modules_is_so ctx e x s t v inside.no_enums objects (no_global ctx x.scope inside.names) h.sorted done).number n is;
+  as_array = given_there (IsArrayNumber number) ((meaning e).value (lone x)) s t v
+      (known_number ctx x (no_global ctx x.scope inside.names) (steady_in ctx x (inside_alone ctx x inside)) objects e (sorted_in ctx x (inside_alone ctx x inside) e h) number known)
+      (to_lone x inside.no_enums (λ z. (meaning e).value z s ≡ Done v t) done);
 }

@@ -39,6 +39,7 @@ use Rattle.ecma_runs.specs.Objects.{Calling, Function, BoundFunction, calling_at
 use Rattle.ecma_runs.specs.Operators.{both, total, key_from, number_from, loosely_equal, strictly_equal, compared, added, short_circuit, unary_value}
 use Rattle.ecma_runs.specs.Functions.{read_typed, delete}
 use Rattle.ecma_runs.specs.Expressions.{is_in, binary_rest, unary}
+use Rattle.ecma_judge_runs.proofs.Lone.{lone}
 use Rattle.ecma_judge_runs.specs.Known.{HasTruth, HasNumber, HasType, IsAsJudged, is_told_of}
 use Rattle.ecma_judge_runs.proofs.Giving.{GivesBy, bind_gives, then_gives, any_gives, weaker_gives, give_gives, throw_gives, outside_gives, when_gives, mapped_gives, mapped_by, both_give}
 use Rattle.ecma_judge_runs.proofs.Both.{both_true}
@@ -140,17 +141,17 @@ module _ (ctx : ExprCtx) where
         })
 
     -- an operator on the operand's value, or on what it refers to
-    pub unary_gives : (op : UnaryOp) (b : Bool) (kids : List Judged) (operand : Meaning) → is_told_of op b ≡ true → (b ≡ true → GivesBy (IsAsJudged (kid kids 0)) (operand.value x))
+    pub unary_gives : (op : UnaryOp) (b : Bool) (kids : List Judged) (operand : Meaning) → is_told_of op b ≡ true → (b ≡ true → GivesBy (IsAsJudged (kid kids 0)) (operand.value (lone x)))
         → (passes_at (is_infinity ctx) 0 n ≡ true → (v : Value) → IsAsJudged (kid kids 0) v → HasNumber (Known js_number.Infinity) v)
-        → GivesBy (Fits ctx own n (kind.UnaryExpr op) kids) (unary op operand x)
+        → GivesBy (Fits ctx own n (kind.UnaryExpr op) kids) (unary op operand (lone x))
     unfolding truth_by number_by text_by type_by
     unary_gives operator.Minus b kids operand is h f = bind_gives (h is) (λ v p. minus_gives kids v p (λ i. f i v p))
-    unary_gives operator.Plus b kids operand is h f = then_gives (operand.value x) (λ v. mapped_gives Number (number_from v) (λ m. record { truth = tt; number = tt; text = tt; type = refl }))
+    unary_gives operator.Plus b kids operand is h f = then_gives (operand.value (lone x)) (λ v. mapped_gives Number (number_from v) (λ m. record { truth = tt; number = tt; text = tt; type = refl }))
     unary_gives operator.Bang b kids operand is h f = bind_gives (h is) (λ v p. bang_gives kids v p.truth)
-    unary_gives operator.Tilde b kids operand is h f = then_gives (operand.value x) (λ v. mapped_gives (λ m. Number (complement_of m)) (number_from v) (λ m. record { truth = tt; number = tt; text = tt; type = refl }))
-    unary_gives operator.TypeOf b kids operand is h f = then_gives (operand.reference x) (λ r. then_gives (read_typed x r) (λ v. type_gives kids v))
-    unary_gives operator.Void b kids operand is h f = then_gives (operand.value x) (λ v. void_gives kids v)
-    unary_gives operator.Delete b kids operand is h f = then_gives (operand.reference x) (λ r. delete_gives kids r)
+    unary_gives operator.Tilde b kids operand is h f = then_gives (operand.value (lone x)) (λ v. mapped_gives (λ m. Number (complement_of m)) (number_from v) (λ m. record { truth = tt; number = tt; text = tt; type = refl }))
+    unary_gives operator.TypeOf b kids operand is h f = then_gives (operand.reference (lone x)) (λ r. then_gives (read_typed (lone x) r) (λ v. type_gives kids v))
+    unary_gives operator.Void b kids operand is h f = then_gives (operand.value (lone x)) (λ v. void_gives kids v)
+    unary_gives operator.Delete b kids operand is h f = then_gives (operand.written (lone x)) (λ r. delete_gives kids r)
 
   -- ---- `in` and `instanceof`
 
@@ -195,32 +196,32 @@ module _ (ctx : ExprCtx) where
 
   -- ---- operators of two sides
 
-  module _ (own : Purity) (n : Node) (x : ExecutionContext) (j l : Judged) (left right : Meaning) (hl : GivesBy (IsAsJudged j) (left.value x)) (hr : GivesBy (IsAsJudged l) (right.value x)) where
+  module _ (own : Purity) (n : Node) (x : ExecutionContext) (j l : Judged) (left right : Meaning) (hl : GivesBy (IsAsJudged j) (left.value (lone x))) (hr : GivesBy (IsAsJudged l) (right.value (lone x))) where
     abbrev pub FitsBetween : BinaryOp → Value → Type 0
     FitsBetween op v = Fits ctx own n (kind.BinExpr op) (j ∷ l ∷ []) v
 
     -- an operator that gives a Number, or a truth, of which no more is told
-    as_number : (op : BinaryOp) (o : Value → Value → Option JsNumber) → ((m : JsNumber) → FitsBetween op (Number m)) → GivesBy (FitsBetween op) (left.value x >>= λ v. right.value x >>= λ w. given (option_map Number (o v w)))
-    as_number op o h = then_gives (left.value x) (λ v. then_gives (right.value x) (λ w. mapped_gives Number (o v w) h))
+    as_number : (op : BinaryOp) (o : Value → Value → Option JsNumber) → ((m : JsNumber) → FitsBetween op (Number m)) → GivesBy (FitsBetween op) (left.value (lone x) >>= λ v. right.value (lone x) >>= λ w. given (option_map Number (o v w)))
+    as_number op o h = then_gives (left.value (lone x)) (λ v. then_gives (right.value (lone x)) (λ w. mapped_gives Number (o v w) h))
 
     as_truth : (op : BinaryOp) (f : Bool → Bool) (o : Value → Value → Option Bool) → ((b : Bool) → FitsBetween op (Truth b))
-        → GivesBy (FitsBetween op) (left.value x >>= λ v. right.value x >>= λ w. given (option_map (λ b. Truth (f b)) (o v w)))
-    as_truth op f o h = then_gives (left.value x) (λ v. then_gives (right.value x) (λ w. mapped_gives (λ b. Truth (f b)) (o v w) (λ b. h (f b))))
+        → GivesBy (FitsBetween op) (left.value (lone x) >>= λ v. right.value (lone x) >>= λ w. given (option_map (λ b. Truth (f b)) (o v w)))
+    as_truth op f o h = then_gives (left.value (lone x)) (λ v. then_gives (right.value (lone x)) (λ w. mapped_gives (λ b. Truth (f b)) (o v w) (λ b. h (f b))))
 
-    or_fits : (v : Value) → IsAsJudged j v → (b : Bool) → truth_of v ≡ b → GivesBy (FitsBetween binary.LogicalOr) (binary_rest binary.LogicalOr (Some b) v right x)
+    or_fits : (v : Value) → IsAsJudged j v → (b : Bool) → truth_of v ≡ b → GivesBy (FitsBetween binary.LogicalOr) (binary_rest binary.LogicalOr (Some b) v right (lone x))
     unfolding truth_by number_by text_by type_by
     or_fits v h true is = give_gives v (record { truth = or_left j.truth.0 l.truth.0 j.truth.1 l.truth.1 v h.truth is; number = tt; text = tt; type = common_left j.type l.type v h.type })
     or_fits v h false is =
         weaker_gives (λ w k. record { truth = or_right j.truth.0 l.truth.0 j.truth.1 l.truth.1 v w h.truth is k.truth; number = tt; text = tt; type = common_right j.type l.type w k.type }) hr
 
-    and_fits : (v : Value) → IsAsJudged j v → (b : Bool) → truth_of v ≡ b → GivesBy (FitsBetween binary.LogicalAnd) (binary_rest binary.LogicalAnd (Some (not b)) v right x)
+    and_fits : (v : Value) → IsAsJudged j v → (b : Bool) → truth_of v ≡ b → GivesBy (FitsBetween binary.LogicalAnd) (binary_rest binary.LogicalAnd (Some (not b)) v right (lone x))
     unfolding truth_by number_by text_by type_by
     and_fits v h false is = give_gives v (record { truth = and_left j.truth.0 l.truth.0 j.truth.1 l.truth.1 v h.truth is; number = tt; text = tt; type = common_left j.type l.type v h.type })
     and_fits v h true is =
         weaker_gives (λ w k. record { truth = and_right j.truth.0 l.truth.0 j.truth.1 l.truth.1 v w h.truth is k.truth; number = tt; text = tt; type = common_right j.type l.type w k.type }) hr
 
     add_fits : (passes_at is_filled 0 n ≡ true → (v : Value) → IsAsJudged j v → Filled v) → (passes_at is_filled 1 n ≡ true → (v : Value) → IsAsJudged l v → Filled v)
-        → GivesBy (FitsBetween binary.Add) (left.value x >>= λ v. right.value x >>= λ w. given (added v w))
+        → GivesBy (FitsBetween binary.Add) (left.value (lone x) >>= λ v. right.value (lone x) >>= λ w. given (added v w))
     unfolding truth_by number_by text_by type_by
     add_fits f g =
         bind_gives hl (λ v p. bind_gives hr (λ w q.
@@ -228,16 +229,16 @@ module _ (ctx : ExprCtx) where
         (both_give (filled_sum v w (passes_at is_filled 0 n) (passes_at is_filled 1 n) (λ is. f is v p) (λ is. g is w q)) (typed_sum v w j.type l.type p.type q.type))))
 
     pub binary_gives : (op : BinaryOp) → (passes_at is_filled 0 n ≡ true → (v : Value) → IsAsJudged j v → Filled v) → (passes_at is_filled 1 n ≡ true → (v : Value) → IsAsJudged l v → Filled v)
-        → GivesBy (FitsBetween op) (left.value x >>= λ v. binary_rest op (short_circuit op v) v right x)
+        → GivesBy (FitsBetween op) (left.value (lone x) >>= λ v. binary_rest op (short_circuit op v) v right (lone x))
     unfolding truth_by number_by text_by type_by
-    binary_gives binary.EqEq f g = then_gives (left.value x) (λ v. then_gives (right.value x) (λ w. mapped_gives Truth (loosely_equal v w) (λ b. record { truth = tt; number = tt; text = tt; type = refl })))
+    binary_gives binary.EqEq f g = then_gives (left.value (lone x)) (λ v. then_gives (right.value (lone x)) (λ w. mapped_gives Truth (loosely_equal v w) (λ b. record { truth = tt; number = tt; text = tt; type = refl })))
     binary_gives binary.NotEq f g = as_truth binary.NotEq not loosely_equal (λ b. record { truth = tt; number = tt; text = tt; type = refl })
-    binary_gives binary.EqEqEq f g = then_gives (left.value x) (λ v. then_gives (right.value x) (λ w. mapped_gives Truth (strictly_equal v w) (λ b. record { truth = tt; number = tt; text = tt; type = refl })))
+    binary_gives binary.EqEqEq f g = then_gives (left.value (lone x)) (λ v. then_gives (right.value (lone x)) (λ w. mapped_gives Truth (strictly_equal v w) (λ b. record { truth = tt; number = tt; text = tt; type = refl })))
     binary_gives binary.NotEqEq f g = as_truth binary.NotEqEq not strictly_equal (λ b. record { truth = tt; number = tt; text = tt; type = refl })
-    binary_gives binary.Lt f g = then_gives (left.value x) (λ v. then_gives (right.value x) (λ w. mapped_gives Truth (compared (λ b. b) v w) (λ b. record { truth = tt; number = tt; text = tt; type = refl })))
-    binary_gives binary.LtEq f g = then_gives (left.value x) (λ v. then_gives (right.value x) (λ w. mapped_gives Truth (compared not w v) (λ b. record { truth = tt; number = tt; text = tt; type = refl })))
-    binary_gives binary.Gt f g = then_gives (left.value x) (λ v. then_gives (right.value x) (λ w. mapped_gives Truth (compared (λ b. b) w v) (λ b. record { truth = tt; number = tt; text = tt; type = refl })))
-    binary_gives binary.GtEq f g = then_gives (left.value x) (λ v. then_gives (right.value x) (λ w. mapped_gives Truth (compared not v w) (λ b. record { truth = tt; number = tt; text = tt; type = refl })))
+    binary_gives binary.Lt f g = then_gives (left.value (lone x)) (λ v. then_gives (right.value (lone x)) (λ w. mapped_gives Truth (compared (λ b. b) v w) (λ b. record { truth = tt; number = tt; text = tt; type = refl })))
+    binary_gives binary.LtEq f g = then_gives (left.value (lone x)) (λ v. then_gives (right.value (lone x)) (λ w. mapped_gives Truth (compared not w v) (λ b. record { truth = tt; number = tt; text = tt; type = refl })))
+    binary_gives binary.Gt f g = then_gives (left.value (lone x)) (λ v. then_gives (right.value (lone x)) (λ w. mapped_gives Truth (compared (λ b. b) w v) (λ b. record { truth = tt; number = tt; text = tt; type = refl })))
+    binary_gives binary.GtEq f g = then_gives (left.value (lone x)) (λ v. then_gives (right.value (lone x)) (λ w. mapped_gives Truth (compared not v w) (λ b. record { truth = tt; number = tt; text = tt; type = refl })))
     binary_gives binary.LShift f g = as_number binary.LShift (λ v w. both (total left_shift_of) (number_from v) (number_from w)) (λ m. record { truth = tt; number = tt; text = tt; type = refl })
     binary_gives binary.RShift f g = as_number binary.RShift (λ v w. both (total right_shift_of) (number_from v) (number_from w)) (λ m. record { truth = tt; number = tt; text = tt; type = refl })
     binary_gives binary.ZeroFillRShift f g = as_number binary.ZeroFillRShift (λ v w. both (total unsigned_right_shift_of) (number_from v) (number_from w)) (λ m. record { truth = tt; number = tt; text = tt; type = refl })
@@ -261,7 +262,7 @@ module _ (ctx : ExprCtx) where
         (λ a b r pa qb is. record { truth = and_fits_bits j.type l.type j.truth.1 l.truth.1 v w p.type q.type p.truth q.truth a b r pa qb is; number = tt; text = tt; type = refl })))
     binary_gives binary.LogicalOr f g = bind_gives hl (λ v h. or_fits v h (truth_of v) refl)
     binary_gives binary.LogicalAnd f g = bind_gives hl (λ v h. and_fits v h (truth_of v) refl)
-    binary_gives binary.In f g = then_gives (left.value x) (λ v. then_gives (right.value x) (λ w. weaker_gives (λ u h. record { truth = tt; number = tt; text = tt; type = h }) (is_in_gives v w)))
-    binary_gives binary.InstanceOf f g = then_gives (left.value x) (λ v. then_gives (right.value x) (λ w. weaker_gives (λ u h. record { truth = tt; number = tt; text = tt; type = h }) (instance_of_gives v w)))
+    binary_gives binary.In f g = then_gives (left.value (lone x)) (λ v. then_gives (right.value (lone x)) (λ w. weaker_gives (λ u h. record { truth = tt; number = tt; text = tt; type = h }) (is_in_gives v w)))
+    binary_gives binary.InstanceOf f g = then_gives (left.value (lone x)) (λ v. then_gives (right.value (lone x)) (λ w. weaker_gives (λ u h. record { truth = tt; number = tt; text = tt; type = h }) (instance_of_gives v w)))
     binary_gives binary.Exp f g = as_number binary.Exp (λ v w. both power_of (number_from v) (number_from w)) (λ m. record { truth = tt; number = tt; text = tt; type = refl })
     binary_gives binary.NullishCoalescing f g = any_gives (λ v. record { truth = tt; number = tt; text = tt; type = tt })

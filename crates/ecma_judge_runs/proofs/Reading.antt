@@ -10,6 +10,7 @@ use Rattle.ecma_runs.specs.Operators.{key_from, binary_value}
 use Rattle.ecma_runs.specs.Members.{text_member}
 use Rattle.ecma_runs.specs.Functions.{read, read_typed}
 use Rattle.ecma_runs.specs.Expressions.{is_in, applied}
+use Rattle.ecma_judge_runs.proofs.Lone.{lone}
 use Rattle.ecma_judge_runs.proofs.Leaving.{Leaves, bind_leaves, give_leaves, throw_leaves, outside_leaves, when_leaves, unless_leaves, given_leaves}
 use Rattle.ecma_judge_runs.proofs.Records.{Readable, read_variable_leaves, read_free_leaves, read_free_typed_leaves}
 use Rattle.ecma_judge_runs.proofs.Objects.{has_member_leaves, instance_of_leaves}
@@ -20,7 +21,7 @@ module _ (old : State) where
   text_member_leaves text key = when_leaves old (bytes_eq key (codes "length")) (bind_leaves old (given_leaves old (length_of text)) (λ n. give_leaves old (Number n))) (outside_leaves old)
 
   module _ (x : ExecutionContext) where
-    pub read_leaves : (r : Reference) → Readable r → Leaves old (read x r)
+    pub read_leaves : (r : Reference) → Readable r → Leaves old (read (lone x) r)
     read_leaves (ToVariable place id) h = read_variable_leaves old x.provided.imports place id
     read_leaves (ToFree name) h = unless_leaves old (bytes_eq name (codes "arguments")) _ h (read_free_leaves old x.provided.frees name)
     read_leaves (ToMember o key) h = absurd h
@@ -29,7 +30,7 @@ module _ (old : State) where
     read_leaves (ToMetaMember v) h = give_leaves old v
     read_leaves (ToValue v) h = give_leaves old v
 
-    pub read_typed_leaves : (r : Reference) → Readable r → Leaves old (read_typed x r)
+    pub read_typed_leaves : (r : Reference) → Readable r → Leaves old (read_typed (lone x) r)
     read_typed_leaves (ToFree name) h = unless_leaves old (bytes_eq name (codes "arguments")) _ h (read_free_typed_leaves old x.provided.frees name)
     read_typed_leaves (ToVariable place id) h = read_leaves (ToVariable place id) h
     read_typed_leaves (ToMember o key) h = absurd h

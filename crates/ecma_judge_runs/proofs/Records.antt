@@ -5,7 +5,7 @@ use Rattle.ecma_runs.specs.declared.script.ImportValue.{ImportValue}
 use Rattle.ecma_runs.specs.declared.shown.Shown.{Shown}
 use Rattle.ecma_runs.specs.declared.shown.Shown.TheVariants as shown
 use Rattle.ecma_runs.specs.Values.{Value, Own}
-use Rattle.ecma_runs.specs.State.{Content, Empty, Holds, Imported, Id, Entered, Binding, Activation, State}
+use Rattle.ecma_runs.specs.State.{Content, Empty, Unfilled, Holds, Imported, Id, Entered, Binding, Activation, State}
 use Rattle.ecma_runs.specs.Run.{Run, give, outside, when}
 use Rattle.ecma_runs.specs.Host.{import_value, taken_if, own_at, handled, taken, free_value, fixed_value, free_or, read_free, free_or_undefined, read_free_typed}
 use Rattle.ecma_runs.specs.Environment.{ids_of, new_environment, variable, with_value, set_variable, Reference, ToVariable, ToFree, ToMember, ToSuper, ToImportMeta, ToMetaMember, ToValue, is_among, resolved, content_value, value_in, read_variable, set_all, activation_at, activation_or, activation, this}
@@ -81,6 +81,7 @@ module _ (old : State) where
 
   content_value_leaves : (imports : List ImportValue) (content : Content) → Leaves old (content_value imports content)
   content_value_leaves imports Empty = throw_leaves old _
+  content_value_leaves imports Unfilled = throw_leaves old _
   content_value_leaves imports (Holds v) = give_leaves old v
   content_value_leaves imports (Imported source name) = taken_if_leaves (import_value imports source name)
 

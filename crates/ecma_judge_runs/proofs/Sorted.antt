@@ -17,6 +17,7 @@ use Rattle.ecma_judge.specs.Parts.{has_kind, is_optional_call, is_there, passes_
 use Rattle.ecma_judge.specs.PureCallees.{is_pure_member, is_pure_member_of, has_pure_key, pure_callee_by}
 use Rattle.ecma_judge.proofs.Judging.{callee-out}
 use Rattle.ecma_runs.specs.Meaning.{ExecutionContext}
+use Rattle.ecma_judge_runs.proofs.Lone.{lone}
 use Rattle.ecma_judge_runs.specs.Called.{Assumed}
 use Rattle.ecma_judge_runs.specs.Taken.{Taken, all_whole, all_named, in_place, in_place_by, missing_by, is_taken_by, read_by, called_by, named_by, taken_by, taken}
 use Rattle.ecma_judge_runs.specs.Told.{Names, told_by, named_names_by, names_step, names}
@@ -76,7 +77,7 @@ module _ (ctx : ExprCtx) (x : ExecutionContext) where
       let b = both_true (has_shape c (one sort.PropOrSpread)) (all_have_shapes (replicate (length cs) (one sort.PropOrSpread)) (map has_shape cs)) below in
       let p = neither_true (property_may_call c) (list_any property_may_call cs) plain in
       two_true (mark c).in_object (list_all (λ (t : Taken). in_place false t) (map mark cs))
-      (ap (λ (t : Taken). t.in_object) (taken-out ctx all x c) ∙ object_item_by c (out-Node c).kind (map mark (out-Node c).children) (shaped c (one sort.PropOrSpread) b.0).0 p.0) (object_items cs b.1 p.1)
+      (ap (λ (t : Taken). t.in_object) (taken-out ctx all (lone x) c) ∙ object_item_by c (out-Node c).kind (map mark (out-Node c).children) (shaped c (one sort.PropOrSpread) b.0).0 p.0) (object_items cs b.1 p.1)
 
   object_by : (k : Kind) (cs : List Node) → is_list k ≡ true → Below k (many sort.PropOrSpread) cs → list_any property_may_call cs ≡ false → in_place_by false k (map mark cs) ≡ true
   object_by kind.List cs is below plain = object_items cs below plain
@@ -85,7 +86,7 @@ module _ (ctx : ExprCtx) (x : ExecutionContext) where
   -- properties of which none may call are no accessors
   in_object : (n : Node) → has_shape n (many sort.PropOrSpread) ≡ true → properties_may_call n ≡ false → (mark n).in_object ≡ true
   in_object n h plain =
-      let t = shaped n (many sort.PropOrSpread) h in ap (λ (t : Taken). t.in_object) (taken-out ctx all x n) ∙ object_by (out-Node n).kind (out-Node n).children t.0 t.1 plain
+      let t = shaped n (many sort.PropOrSpread) h in ap (λ (t : Taken). t.in_object) (taken-out ctx all (lone x) n) ∙ object_by (out-Node n).kind (out-Node n).children t.0 t.1 plain
 
   class_items : (cs : List Node) → all_have_shapes (replicate (length cs) (one sort.ClassMember)) (map has_shape cs) ≡ true → list_any (has_kind is_static_accessor) cs ≡ false → list_all (λ (t : Taken). in_place true t) (map mark cs) ≡ true
   class_items [] below plain = refl
@@ -93,7 +94,7 @@ module _ (ctx : ExprCtx) (x : ExecutionContext) where
       let b = both_true (has_shape c (one sort.ClassMember)) (all_have_shapes (replicate (length cs) (one sort.ClassMember)) (map has_shape cs)) below in
       let p = neither_true (has_kind is_static_accessor c) (list_any (has_kind is_static_accessor) cs) plain in
       two_true (mark c).in_class (list_all (λ (t : Taken). in_place true t) (map mark cs))
-      (ap (λ (t : Taken). t.in_class) (taken-out ctx all x c) ∙ class_item_by (out-Node c).kind (map mark (out-Node c).children) (shaped c (one sort.ClassMember) b.0).0 p.0) (class_items cs b.1 p.1)
+      (ap (λ (t : Taken). t.in_class) (taken-out ctx all (lone x) c) ∙ class_item_by (out-Node c).kind (map mark (out-Node c).children) (shaped c (one sort.ClassMember) b.0).0 p.0) (class_items cs b.1 p.1)
 
   class_list_by : (k : Kind) (cs : List Node) → is_list k ≡ true → Below k (many sort.ClassMember) cs → list_any (has_kind is_static_accessor) cs ≡ false → in_place_by true k (map mark cs) ≡ true
   class_list_by kind.List cs is below plain = class_items cs below plain
@@ -101,7 +102,7 @@ module _ (ctx : ExprCtx) (x : ExecutionContext) where
 
   class_list : (n : Node) → has_shape n (many sort.ClassMember) ≡ true → has_static_accessor n ≡ false → (mark n).in_class ≡ true
   class_list n h plain =
-      let t = shaped n (many sort.ClassMember) h in ap (λ (t : Taken). t.in_class) (taken-out ctx all x n) ∙ class_list_by (out-Node n).kind (out-Node n).children t.0 t.1 plain
+      let t = shaped n (many sort.ClassMember) h in ap (λ (t : Taken). t.in_class) (taken-out ctx all (lone x) n) ∙ class_list_by (out-Node n).kind (out-Node n).children t.0 t.1 plain
 
   class_by : (n : Node) (k : Kind) (cs : List Node) → (out-Node n).children ≡ cs → belongs sort.Class k ≡ true → Below k (one sort.Class) cs → class_may_call n ≡ false → in_place_by true k (map mark cs) ≡ true
   class_by n (kind.Class is_abstract) (super ∷ body ∷ types ∷ super_types ∷ implements ∷ []) shape is below plain =
@@ -109,7 +110,7 @@ module _ (ctx : ExprCtx) (x : ExecutionContext) where
       let c = both_true (has_shape body (many sort.ClassMember)) _ b.1 in
       let p = neither_true (passes_at is_there 0 n) (passes_at has_static_accessor 1 n) plain in
       two_true (mark super).missing (mark body).in_class
-      (ap (λ (t : Taken). t.missing) (taken-out ctx all x super) ∙ missing_kind (out-Node super).kind (fails_first is_there n super (body ∷ types ∷ super_types ∷ implements ∷ []) shape p.0))
+      (ap (λ (t : Taken). t.missing) (taken-out ctx all (lone x) super) ∙ missing_kind (out-Node super).kind (fails_first is_there n super (body ∷ types ∷ super_types ∷ implements ∷ []) shape p.0))
       (class_list body c.0 (fails_second has_static_accessor n super body (types ∷ super_types ∷ implements ∷ []) shape p.1))
   class_by n (kind.Class is_abstract) cs shape is below plain = absurd (omega (arith, same_count (child_shapes (kind.Class is_abstract) (one sort.Class) (length cs)) cs below))
   class_by n k cs shape is below plain = absurd (untrue is)
@@ -117,7 +118,7 @@ module _ (ctx : ExprCtx) (x : ExecutionContext) where
   -- a class that may call nothing has no accessor
   in_class : (n : Node) → has_shape n (one sort.Class) ≡ true → class_may_call n ≡ false → (mark n).in_class ≡ true
   in_class n h plain =
-      let t = shaped n (one sort.Class) h in ap (λ (t : Taken). t.in_class) (taken-out ctx all x n) ∙ class_by n (out-Node n).kind (out-Node n).children refl t.0 t.1 plain
+      let t = shaped n (one sort.Class) h in ap (λ (t : Taken). t.in_class) (taken-out ctx all (lone x) n) ∙ class_by n (out-Node n).kind (out-Node n).children refl t.0 t.1 plain
 
   -- ---- pure callees
 
@@ -128,7 +129,7 @@ module _ (ctx : ExprCtx) (x : ExecutionContext) where
   pure_read_by k l ts is = absurd (untrue is)
 
   pure_read : (object key : Node) → is_pure_member_of ctx object key ≡ true → (mark object).read ≡ true
-  pure_read object key is = ap (λ (t : Taken). t.read) (taken-out ctx all x object) ∙ pure_read_by (out-Node object).kind (out-Node key).kind (map mark (out-Node object).children) is
+  pure_read object key is = ap (λ (t : Taken). t.read) (taken-out ctx all (lone x) object) ∙ pure_read_by (out-Node object).kind (out-Node key).kind (map mark (out-Node object).children) is
 
   pure_member_read : (n object key : Node) (cs : List Node) → (out-Node n).children ≡ object ∷ key ∷ cs → pure_callee_by ctx kind.MemberExpr n ≡ true → (mark object).read ≡ true
   unfolding pure_callee_by
@@ -142,7 +143,7 @@ module _ (ctx : ExprCtx) (x : ExecutionContext) where
 
   pure_key : (object key : Node) → is_pure_member_of ctx object key ≡ true → has_shape key (one sort.MemberProp) ≡ true → (mark key).whole ≡ true
   pure_key object key is h =
-      ap (λ (t : Taken). t.whole) (taken-out ctx all x key) ∙ pure_key_by (out-Node object).kind (out-Node key).kind (out-Node key).children is (shaped key (one sort.MemberProp) h).1
+      ap (λ (t : Taken). t.whole) (taken-out ctx all (lone x) key) ∙ pure_key_by (out-Node object).kind (out-Node key).kind (out-Node key).children is (shaped key (one sort.MemberProp) h).1
 
   pure_key_whole : (n object key : Node) (cs : List Node) → (out-Node n).children ≡ object ∷ key ∷ cs → has_shape key (one sort.MemberProp) ≡ true → pure_callee_by ctx kind.MemberExpr n ≡ true → (mark key).whole ≡ true
   unfolding pure_callee_by
@@ -159,7 +160,7 @@ module _ (ctx : ExprCtx) (x : ExecutionContext) where
   -- a callee that is pure is spoken of
   pure_called : (n : Node) (s : Shape) → has_shape n s ≡ true → (judged ctx n).pure_callee ≡ true → (mark n).called ≡ true
   pure_called n s h pure =
-      ap (λ (t : Taken). t.called) (taken-out ctx all x n) ∙ called_by_pure n (out-Node n).kind (out-Node n).children refl s (shaped n s h).1 (sym (callee-out ctx n) ∙ pure)
+      ap (λ (t : Taken). t.called) (taken-out ctx all (lone x) n) ∙ called_by_pure n (out-Node n).kind (out-Node n).children refl s (shaped n s h).1 (sym (callee-out ctx n) ∙ pure)
 
   -- ---- each node
 
@@ -237,7 +238,7 @@ module _ (ctx : ExprCtx) (x : ExecutionContext) where
 
   function_whole : (n : Node) → has_shape n (one sort.Function) ≡ true → (mark n).whole ≡ true
   function_whole n h =
-      ap (λ (t : Taken). t.whole) (taken-out ctx all x n) ∙ function_whole_by (out-Node n).kind (map mark (out-Node n).children) (shaped n (one sort.Function) h).0
+      ap (λ (t : Taken). t.whole) (taken-out ctx all (lone x) n) ∙ function_whole_by (out-Node n).kind (map mark (out-Node n).children) (shaped n (one sort.Function) h).0
 
   -- a method
   method_whole : (s : Shape) (ns : List SortableNode) → Shaped (s ∷ one sort.Function ∷ []) ns → (kid (judgements ns) 0).effects ≡ false → all_told ns ≡ true → all_whole (marks ns) ≡ true
@@ -263,7 +264,7 @@ module _ (ctx : ExprCtx) (x : ExecutionContext) where
   class_name : (n : Node) → has_shape n (maybe sort.Ident) ≡ true → (name n).told ≡ true → (mark n).whole ≡ true
   class_name n h told =
       let t = shaped n (maybe sort.Ident) h in
-      ap (λ (t : Taken). t.whole) (taken-out ctx all x n) ∙ class_name_by (out-Node n).kind (out-Node n).children t.0 t.1 (sym (ap (λ (m : Names). m.told) (names-out n)) ∙ told)
+      ap (λ (t : Taken). t.whole) (taken-out ctx all (lone x) n) ∙ class_name_by (out-Node n).kind (out-Node n).children t.0 t.1 (sym (ap (λ (m : Names). m.told) (names-out n)) ∙ told)
 
   -- a member: of a pure callee, or of what reads plainly
   member_whole : (n : Node) (object key : SortableNode) (ns : List SortableNode) → (out-Node n).children ≡ object.0 ∷ key.0 ∷ nodes ns → Shaped (one sort.Expr ∷ one sort.MemberProp ∷ []) (object ∷ key ∷ ns)
@@ -443,7 +444,7 @@ module _ (ctx : ExprCtx) (x : ExecutionContext) where
   sortable_roll parts ns is =
       let n = roll-Node parts in
       let shape : (out-Node n).children ≡ nodes ns = ap (λ (z : Node-F Node). z.children) (out-roll-Node parts) ∙ sym is in
-      let marked : mark n ≡ taken_by ctx x.known.declared all parts.kind n (marks ns) = taken-roll ctx all x parts ∙ ap (λ l. taken_by ctx x.known.declared all parts.kind n (map mark l)) (sym is) in
+      let marked : mark n ≡ taken_by ctx x.known.declared all parts.kind n (marks ns) = taken-roll ctx all (lone x) parts ∙ ap (λ l. taken_by ctx x.known.declared all parts.kind n (map mark l)) (sym is) in
       let called : name n ≡ names_step ctx x.known.declared (record { span = parts.span; kind = parts.kind; children = all_names ns }) =
       fold-roll-Node Names (names_step ctx x.known.declared) parts ∙ ap (λ l. names_step ctx x.known.declared (record { span = parts.span; kind = parts.kind; children = map name l })) (sym is) in
       let below : (s : Shape) → has_shape n s ≡ true → Shaped (child_shapes parts.kind s (length (nodes ns))) ns = λ s h.

@@ -39,6 +39,7 @@ use Rattle.ecma_runs.specs.Operators.{total, number_from, unary_value}
 use Rattle.ecma_runs.specs.Expressions.{binary_rest, all_elements}
 use Rattle.ecma_runs.proofs.Layer.{meaning-roll}
 use Rattle.std.specs.Prelude.{bit_and, bit_or}
+use Rattle.ecma_judge_runs.proofs.Lone.{lone}
 use Rattle.ecma_judge_runs.specs.Known.{HasTruth, HasNumber, HasText, HasType, IsAsJudged}
 use Rattle.ecma_judge_runs.proofs.Leaving.{Follows, LeavesBy, Leaves, bind_by, bind_leaves, give_leaves, outside_leaves, given_leaves}
 use Rattle.ecma_judge_runs.proofs.Giving.{Gave, GivesBy, bind_gives, then_gives, any_gives, weaker_gives, give_gives, outside_gives}
@@ -98,10 +99,10 @@ module _ (ctx : ExprCtx) (Asked : Node → Type 0) (x : ExecutionContext) where
   AsTruth j v = HasTruth j.truth.1 v × HasType j.type v
 
   pub record Steady (n : Node) : Type 0 where
-    pub truth : Asked n → (judged ctx n).truth.0 ≡ Pure → Told (AsTruth (judged ctx n)) ((meaning n).value x)
-    pub number : Asked n → (judged ctx n).number.0 ≡ Pure → Told (HasNumber (judged ctx n).number.1) ((meaning n).value x)
-    pub text : Asked n → (t : List ℕ) → (judged ctx n).text ≡ Known t → (old : State) → Leaves old ((meaning n).value x) × Leaves old ((meaning n).elements x)
-    pub element : Asked n → (t : List ℕ) → (judged ctx n).element ≡ Known t → (old : State) → Leaves old ((meaning n).elements x)
+    pub truth : Asked n → (judged ctx n).truth.0 ≡ Pure → Told (AsTruth (judged ctx n)) ((meaning n).value (lone x))
+    pub number : Asked n → (judged ctx n).number.0 ≡ Pure → Told (HasNumber (judged ctx n).number.1) ((meaning n).value (lone x))
+    pub text : Asked n → (t : List ℕ) → (judged ctx n).text ≡ Known t → (old : State) → Leaves old ((meaning n).value (lone x)) × Leaves old ((meaning n).elements (lone x))
+    pub element : Asked n → (t : List ℕ) → (judged ctx n).element ≡ Known t → (old : State) → Leaves old ((meaning n).elements (lone x))
 
   abbrev SteadyNode : Type 0
   SteadyNode = (n : Node) × Steady n
@@ -130,9 +131,9 @@ module _ (ctx : ExprCtx) (Asked : Node → Type 0) (x : ExecutionContext) where
 
   -- what is said of a node without effects
   record Calm (n : Node) (k : Kind) (ns : List SteadyNode) : Type 0 where
-    pub leaves : (old : State) → Leaves old ((meant n k ns).value x)
-    pub elements : (old : State) → Leaves old ((meant n k ns).elements x)
-    pub gives : GivesBy (Fits ctx (own_here n k ns) n k (judgements ns)) ((meant n k ns).value x)
+    pub leaves : (old : State) → Leaves old ((meant n k ns).value (lone x))
+    pub elements : (old : State) → Leaves old ((meant n k ns).elements (lone x))
+    pub gives : GivesBy (Fits ctx (own_here n k ns) n k (judgements ns)) ((meant n k ns).value (lone x))
 
   abbrev IfCalm : Node → Kind → List SteadyNode → Type 0
   IfCalm n k ns = effects_here n k ns ≡ false → Calm n k ns
@@ -143,10 +144,10 @@ module _ (ctx : ExprCtx) (Asked : Node → Type 0) (x : ExecutionContext) where
   abbrev NumberHere : Node → Kind → List SteadyNode → Value → Type 0
   NumberHere n k ns v = HasNumber (number_by ctx (own_here n k ns) k n (judgements ns)).1 v
 
-  calm_truth : (n : Node) (k : Kind) (ns : List SteadyNode) → Calm n k ns → Told (TruthHere n k ns) ((meant n k ns).value x)
+  calm_truth : (n : Node) (k : Kind) (ns : List SteadyNode) → Calm n k ns → Told (TruthHere n k ns) ((meant n k ns).value (lone x))
   calm_truth n k ns c = record { leaves = c.leaves; gives = weaker_gives (λ v f. (f.truth, f.type)) c.gives }
 
-  calm_number : (n : Node) (k : Kind) (ns : List SteadyNode) → Calm n k ns → Told (NumberHere n k ns) ((meant n k ns).value x)
+  calm_number : (n : Node) (k : Kind) (ns : List SteadyNode) → Calm n k ns → Told (NumberHere n k ns) ((meant n k ns).value (lone x))
   calm_number n k ns c = record { leaves = c.leaves; gives = weaker_gives (λ v f. f.number) c.gives }
 
   outside_told : (P : Value → Type 0) → Told P outside
@@ -163,8 +164,8 @@ module _ (ctx : ExprCtx) (Asked : Node → Type 0) (x : ExecutionContext) where
 
   -- behind a left side whose truth is known, or before a right side that is pure
   module _ (j l : Judged) (right : Meaning) where
-    or_rest : (v : Value) (b : Bool) → truth_of v ≡ b → AsTruth j v → (j.truth.1 ≡ Known true) ⊎ (l.truth.0 ≡ Pure) → (l.truth.0 ≡ Pure → Told (AsTruth l) (right.value x))
-        → Told (λ w. HasTruth (or_truth j.truth l.truth).1 w × HasType (common_type j.type l.type) w) (binary_rest binary.LogicalOr (Some b) v right x)
+    or_rest : (v : Value) (b : Bool) → truth_of v ≡ b → AsTruth j v → (j.truth.1 ≡ Known true) ⊎ (l.truth.0 ≡ Pure) → (l.truth.0 ≡ Pure → Told (AsTruth l) (right.value (lone x)))
+        → Told (λ w. HasTruth (or_truth j.truth l.truth).1 w × HasType (common_type j.type l.type) w) (binary_rest binary.LogicalOr (Some b) v right (lone x))
     or_rest v true is h either hr =
         record { leaves = λ old. give_leaves old v; gives = give_gives v (or_left j.truth.0 l.truth.0 j.truth.1 l.truth.1 v h.0 is, common_left j.type l.type v h.1) }
     or_rest v false is h (inr pure) hr =
@@ -174,8 +175,8 @@ module _ (ctx : ExprCtx) (Asked : Node → Type 0) (x : ExecutionContext) where
         }
     or_rest v false is h (inl known) hr = absurd (apart_from (truth_of v) (subst (λ z. HasTruth z v) known h.0) is)
 
-    and_rest : (v : Value) (b : Bool) → truth_of v ≡ b → AsTruth j v → (j.truth.1 ≡ Known false) ⊎ (l.truth.0 ≡ Pure) → (l.truth.0 ≡ Pure → Told (AsTruth l) (right.value x))
-        → Told (λ w. HasTruth (and_truth j.truth l.truth).1 w × HasType (common_type j.type l.type) w) (binary_rest binary.LogicalAnd (Some (not b)) v right x)
+    and_rest : (v : Value) (b : Bool) → truth_of v ≡ b → AsTruth j v → (j.truth.1 ≡ Known false) ⊎ (l.truth.0 ≡ Pure) → (l.truth.0 ≡ Pure → Told (AsTruth l) (right.value (lone x)))
+        → Told (λ w. HasTruth (and_truth j.truth l.truth).1 w × HasType (common_type j.type l.type) w) (binary_rest binary.LogicalAnd (Some (not b)) v right (lone x))
     and_rest v false is h either hr =
         record { leaves = λ old. give_leaves old v; gives = give_gives v (and_left j.truth.0 l.truth.0 j.truth.1 l.truth.1 v h.0 is, common_left j.type l.type v h.1) }
     and_rest v true is h (inr pure) hr =
@@ -187,7 +188,7 @@ module _ (ctx : ExprCtx) (Asked : Node → Type 0) (x : ExecutionContext) where
 
   binary_truth : (op : BinaryOp) (n : Node) (l r : SteadyNode) → Asked l.0 × Asked r.0
       → IfCalm n (kind.BinExpr op) (l ∷ r ∷ []) → (truth_by ctx (own_here n (kind.BinExpr op) (l ∷ r ∷ [])) (kind.BinExpr op) n (judged ctx l.0 ∷ judged ctx r.0 ∷ [])).0 ≡ Pure
-      → Told (TruthHere n (kind.BinExpr op) (l ∷ r ∷ [])) ((meant n (kind.BinExpr op) (l ∷ r ∷ [])).value x)
+      → Told (TruthHere n (kind.BinExpr op) (l ∷ r ∷ [])) ((meant n (kind.BinExpr op) (l ∷ r ∷ [])).value (lone x))
   unfolding truth_by type_by
   binary_truth binary.LogicalOr n l r t calm is =
       let p = or_pure (judged ctx l.0).truth.0 (judged ctx r.0).truth.0 (judged ctx l.0).truth.1 (judged ctx r.0).truth.1 is in
@@ -245,7 +246,7 @@ module _ (ctx : ExprCtx) (Asked : Node → Type 0) (x : ExecutionContext) where
 
   unary_truth : (op : UnaryOp) (n : Node) (e : SteadyNode) → Asked e.0
       → IfCalm n (kind.UnaryExpr op) (e ∷ []) → (truth_by ctx (own_here n (kind.UnaryExpr op) (e ∷ [])) (kind.UnaryExpr op) n (judged ctx e.0 ∷ [])).0 ≡ Pure
-      → Told (TruthHere n (kind.UnaryExpr op) (e ∷ [])) ((meant n (kind.UnaryExpr op) (e ∷ [])).value x)
+      → Told (TruthHere n (kind.UnaryExpr op) (e ∷ [])) ((meant n (kind.UnaryExpr op) (e ∷ [])).value (lone x))
   unfolding truth_by type_by
   unary_truth operator.Bang n e t calm is =
       let h = e.1.truth t is in record {
@@ -255,7 +256,7 @@ module _ (ctx : ExprCtx) (Asked : Node → Type 0) (x : ExecutionContext) where
   unary_truth op n e t calm is = calm_truth n (kind.UnaryExpr op) (e ∷ []) (calm (none_of (effects_here n (kind.UnaryExpr op) (e ∷ [])) is))
 
   layer_truth : (n : Node) (k : Kind) (ns : List SteadyNode) → AskedBelow k ns → IfCalm n k ns
-      → (truth_by ctx (own_here n k ns) k n (judgements ns)).0 ≡ Pure → Told (TruthHere n k ns) ((meant n k ns).value x)
+      → (truth_by ctx (own_here n k ns) k n (judgements ns)).0 ≡ Pure → Told (TruthHere n k ns) ((meant n k ns).value (lone x))
   unfolding truth_by type_by effects_by access_effects_by part_effects_by pure_callee_by
   layer_truth n (kind.Ident name ctxt optional) ns t calm is =
       calm_truth n (kind.Ident name ctxt optional) ns (calm (name_effects n name ctxt optional ns
@@ -281,21 +282,21 @@ module _ (ctx : ExprCtx) (Asked : Node → Type 0) (x : ExecutionContext) where
   -- ---- Numbers
 
   -- an array whose elements leave all as they were
-  array_leaves : (old : State) (elements : Meaning) → Leaves old (elements.elements x) → Leaves old (elements.elements x >>= λ es. new_array es >>= λ o. give (Own o))
+  array_leaves : (old : State) (elements : Meaning) → Leaves old (elements.elements (lone x)) → Leaves old (elements.elements (lone x) >>= λ es. new_array es >>= λ o. give (Own o))
   array_leaves old elements h = bind_leaves old h (λ es. bind_leaves old (new_array_leaves old es) (λ o. give_leaves old (Own o)))
 
   array_told : (n : Node) (e : SteadyNode) → Asked e.0 → IfCalm n kind.ArrayLit (e ∷ []) → (text : KnownOr (List ℕ)) → (judged ctx e.0).text ≡ text
       → (array_number (own_here n kind.ArrayLit (e ∷ [])) text).0 ≡ Pure
-      → Told (λ v. HasNumber (array_number (own_here n kind.ArrayLit (e ∷ [])) text).1 v) ((meant n kind.ArrayLit (e ∷ [])).value x)
+      → Told (λ v. HasNumber (array_number (own_here n kind.ArrayLit (e ∷ [])) text).1 v) ((meant n kind.ArrayLit (e ∷ [])).value (lone x))
   array_told n e t calm (Known text) known is = record {
     leaves = λ old. array_leaves old (meaning e.0) (e.1.text t text known old).1;
-    gives = then_gives ((meaning e.0).elements x) (λ es. then_gives (new_array es) (λ o. give_gives (Own o) (array_has_number (own_here n kind.ArrayLit (e ∷ [])) (Known text) o)));
+    gives = then_gives ((meaning e.0).elements (lone x)) (λ es. then_gives (new_array es) (λ o. give_gives (Own o) (array_has_number (own_here n kind.ArrayLit (e ∷ [])) (Known text) o)));
   }
   array_told n e t calm Unknown known is = record { leaves = (calm (none_of (effects_here n kind.ArrayLit (e ∷ [])) is)).leaves; gives = any_gives (λ v. tt) }
 
   unary_number : (op : UnaryOp) (n : Node) (e : SteadyNode) → (out-Node n).children ≡ e.0 ∷ [] → Asked e.0
       → IfCalm n (kind.UnaryExpr op) (e ∷ []) → (number_by ctx (own_here n (kind.UnaryExpr op) (e ∷ [])) (kind.UnaryExpr op) n (judged ctx e.0 ∷ [])).0 ≡ Pure
-      → Told (NumberHere n (kind.UnaryExpr op) (e ∷ [])) ((meant n (kind.UnaryExpr op) (e ∷ [])).value x)
+      → Told (NumberHere n (kind.UnaryExpr op) (e ∷ [])) ((meant n (kind.UnaryExpr op) (e ∷ [])).value (lone x))
   unfolding number_by effects_by pure_callee_by
   unary_number operator.Minus n e shape t calm is =
       let passes = minus_pure (passes_at (is_infinity ctx) 0 n) is in
@@ -310,7 +311,7 @@ module _ (ctx : ExprCtx) (Asked : Node → Type 0) (x : ExecutionContext) where
   unary_number op n e shape t calm is = absurd (cc)
 
   layer_number : (n : Node) (k : Kind) (ns : List SteadyNode) → (out-Node n).children ≡ nodes ns → AskedBelow k ns → IfCalm n k ns
-      → (number_by ctx (own_here n k ns) k n (judgements ns)).0 ≡ Pure → Told (NumberHere n k ns) ((meant n k ns).value x)
+      → (number_by ctx (own_here n k ns) k n (judgements ns)).0 ≡ Pure → Told (NumberHere n k ns) ((meant n k ns).value (lone x))
   unfolding number_by effects_by pure_callee_by
   layer_number n (kind.Ident name ctxt optional) ns shape t calm is =
       calm_number n (kind.Ident name ctxt optional) ns (calm (name_effects n name ctxt optional ns
@@ -330,7 +331,7 @@ module _ (ctx : ExprCtx) (Asked : Node → Type 0) (x : ExecutionContext) where
   -- ---- texts
 
   abbrev TextHere : Node → Kind → List SteadyNode → Type 0
-  TextHere n k ns = (old : State) → Leaves old ((meant n k ns).value x) × Leaves old ((meant n k ns).elements x)
+  TextHere n k ns = (old : State) → Leaves old ((meant n k ns).value (lone x)) × Leaves old ((meant n k ns).elements (lone x))
 
   calm_text : (n : Node) (k : Kind) (ns : List SteadyNode) → Calm n k ns → TextHere n k ns
   calm_text n k ns c old = (c.leaves old, c.elements old)
@@ -350,7 +351,7 @@ module _ (ctx : ExprCtx) (Asked : Node → Type 0) (x : ExecutionContext) where
       calm_text n (kind.UnaryExpr operator.Void) (e ∷ []) (calm (none_of (effects_here n (kind.UnaryExpr operator.Void) (e ∷ [])) (void_pure own t is))) old
   unary_text op n e whole calm t is old = absurd (cc)
 
-  list_leaves : (old : State) (front : List ℕ) (ns : List SteadyNode) → EachOf Asked (nodes ns) → (t : List ℕ) → joined_behind front (judgements ns) ≡ Known t → Leaves old (all_elements (meanings ns) x)
+  list_leaves : (old : State) (front : List ℕ) (ns : List SteadyNode) → EachOf Asked (nodes ns) → (t : List ℕ) → joined_behind front (judgements ns) ≡ Known t → Leaves old (all_elements (meanings ns) (lone x))
   list_leaves old front [] whole t is = give_leaves old []
   list_leaves old front (n ∷ ns) whole t is =
       let f = followed_known (followed_by (Known front) (judged ctx n.0).element) (joined_behind (44 ∷ []) (judgements ns)) t is in
@@ -378,13 +379,13 @@ module _ (ctx : ExprCtx) (Asked : Node → Type 0) (x : ExecutionContext) where
   -- ---- elements of arrays
 
   nothing_unary : (op : UnaryOp) (n : Node) (ns : List SteadyNode) → IfCalm n (kind.UnaryExpr op) ns → is_nothing_by ctx (own_here n (kind.UnaryExpr op) ns) (kind.UnaryExpr op) ≡ true
-      → (old : State) → Leaves old ((meant n (kind.UnaryExpr op) ns).elements x)
+      → (old : State) → Leaves old ((meant n (kind.UnaryExpr op) ns).elements (lone x))
   unfolding is_nothing_by
   nothing_unary operator.Void n ns calm is old =
       (calm (none_of (effects_here n (kind.UnaryExpr operator.Void) ns) (is_pure_of (own_here n (kind.UnaryExpr operator.Void) ns) is))).elements old
   nothing_unary op n ns calm is old = absurd (cc)
 
-  nothing_leaves : (n : Node) (k : Kind) (ns : List SteadyNode) → IfCalm n k ns → is_nothing_by ctx (own_here n k ns) k ≡ true → (old : State) → Leaves old ((meant n k ns).elements x)
+  nothing_leaves : (n : Node) (k : Kind) (ns : List SteadyNode) → IfCalm n k ns → is_nothing_by ctx (own_here n k ns) k ≡ true → (old : State) → Leaves old ((meant n k ns).elements (lone x))
   unfolding is_nothing_by effects_by access_effects_by part_effects_by pure_callee_by
   nothing_leaves n kind.Absent ns calm is old = (calm refl).elements old
   nothing_leaves n kind.Null ns calm is old = (calm refl).elements old
@@ -394,51 +395,51 @@ module _ (ctx : ExprCtx) (Asked : Node → Type 0) (x : ExecutionContext) where
   nothing_leaves n k ns calm is old = absurd (cc)
 
   layer_element : (n : Node) (k : Kind) (ns : List SteadyNode) → AskedBelow k ns → IfCalm n k ns → (text : KnownOr (List ℕ)) → text ≡ text_by ctx (own_here n k ns) k (judgements ns) → (t : List ℕ)
-      → (b : Bool) → is_nothing_by ctx (own_here n k ns) k ≡ b → (if b then Known [] else text) ≡ Known t → (old : State) → Leaves old ((meant n k ns).elements x)
+      → (b : Bool) → is_nothing_by ctx (own_here n k ns) k ≡ b → (if b then Known [] else text) ≡ Known t → (old : State) → Leaves old ((meant n k ns).elements (lone x))
   layer_element n k ns whole calm text same t true e is old = nothing_leaves n k ns calm e old
   layer_element n k ns whole calm text same t false e is old = (layer_text n k ns whole calm t (sym same ∙ is) old).1
 
-module _ (ctx : ExprCtx) (Asked : Node → Type 0) (x : ExecutionContext) (asks : Asks ctx x Asked) where
-  module _ (parts : Node-F Node) (ns : List (SteadyNode ctx Asked x)) (is : nodes ctx Asked x ns ≡ parts.children) where
+module _ (ctx : ExprCtx) (Asked : Node → Type 0) (x : ExecutionContext) (asks : Asks ctx (lone x) Asked) where
+  module _ (parts : Node-F Node) (ns : List (SteadyNode ctx Asked (lone x))) (is : nodes ctx Asked (lone x) ns ≡ parts.children) where
     abbrev here : Node
     here = roll-Node parts
 
     abbrev own : Purity
-    own = own_here ctx Asked x here parts.kind ns
+    own = own_here ctx Asked (lone x) here parts.kind ns
 
-    same_meaning : meaning here ≡ meant ctx Asked x here parts.kind ns
+    same_meaning : meaning here ≡ meant ctx Asked (lone x) here parts.kind ns
     same_meaning = meaning-roll parts ∙ ap (λ l. meaning_by here parts.kind (map meaning l)) (sym is)
 
-    same_effects : (judged ctx here).effects ≡ effects_here ctx Asked x here parts.kind ns
+    same_effects : (judged ctx here).effects ≡ effects_here ctx Asked (lone x) here parts.kind ns
     same_effects = effects-roll ctx parts ∙ ap (λ l. not (pure_callee_by ctx parts.kind here) && effects_by ctx parts.kind here (map (judged ctx) l)) (sym is)
 
     -- what the tables say, by the kind and the children
-    by_parts : {A : Type 0} (f : Purity → Kind → List Judged → A) → f (purity_of (judged ctx here).effects) (out-Node here).kind (kids_of ctx here) ≡ f own parts.kind (judgements ctx Asked x ns)
+    by_parts : {A : Type 0} (f : Purity → Kind → List Judged → A) → f (purity_of (judged ctx here).effects) (out-Node here).kind (kids_of ctx here) ≡ f own parts.kind (judgements ctx Asked (lone x) ns)
     by_parts f =
         ap (λ (z : Node-F Node). f (purity_of (judged ctx here).effects) z.kind (map (judged ctx) z.children)) (out-roll-Node parts)
-        ∙ ap (λ l. f (purity_of (judged ctx here).effects) parts.kind (map (judged ctx) l)) (sym is) ∙ ap (λ b. f (purity_of b) parts.kind (judgements ctx Asked x ns)) same_effects
+        ∙ ap (λ l. f (purity_of (judged ctx here).effects) parts.kind (map (judged ctx) l)) (sym is) ∙ ap (λ b. f (purity_of b) parts.kind (judgements ctx Asked (lone x) ns)) same_effects
 
-    same_truth : (judged ctx here).truth ≡ truth_by ctx own parts.kind here (judgements ctx Asked x ns)
+    same_truth : (judged ctx here).truth ≡ truth_by ctx own parts.kind here (judgements ctx Asked (lone x) ns)
     same_truth = truth-out ctx here ∙ by_parts (λ p k kids. truth_by ctx p k here kids)
 
-    same_number : (judged ctx here).number ≡ number_by ctx own parts.kind here (judgements ctx Asked x ns)
+    same_number : (judged ctx here).number ≡ number_by ctx own parts.kind here (judgements ctx Asked (lone x) ns)
     same_number = number-out ctx here ∙ by_parts (λ p k kids. number_by ctx p k here kids)
 
-    same_text : (judged ctx here).text ≡ text_by ctx own parts.kind (judgements ctx Asked x ns)
+    same_text : (judged ctx here).text ≡ text_by ctx own parts.kind (judgements ctx Asked (lone x) ns)
     same_text = text-out ctx here ∙ by_parts (λ p k kids. text_by ctx p k kids)
 
-    same_type : (judged ctx here).type ≡ type_by ctx parts.kind here (judgements ctx Asked x ns)
+    same_type : (judged ctx here).type ≡ type_by ctx parts.kind here (judgements ctx Asked (lone x) ns)
     same_type = type-out ctx here ∙ by_parts (λ p k kids. type_by ctx k here kids)
 
     same_element : (judged ctx here).element ≡ element_by ctx own parts.kind (judged ctx here).text
     same_element = element-out ctx here ∙ by_parts (λ p k kids. element_by ctx p k (judged ctx here).text)
 
-    asked_below : Asked here → AskedBelow ctx Asked x parts.kind ns
+    asked_below : Asked here → AskedBelow ctx Asked (lone x) parts.kind ns
     asked_below whole h =
         subst (EachOf Asked) (sym is)
         (subst (λ (z : Node-F Node). EachOf Asked z.children) (out-roll-Node parts) (asks.below here whole (subst (λ (z : Node-F Node). is_parted z.kind ≡ true) (sym (out-roll-Node parts)) h)))
 
-    fits_here : (v : Value) → IsAsJudged (judged ctx here) v → Fits ctx own here parts.kind (judgements ctx Asked x ns) v
+    fits_here : (v : Value) → IsAsJudged (judged ctx here) v → Fits ctx own here parts.kind (judgements ctx Asked (lone x) ns) v
     fits_here v h = record {
       truth = subst (λ (t : Purity × KnownOr Bool). HasTruth t.1 v) same_truth h.truth;
       number = subst (λ (t : Purity × KnownOr JsNumber). HasNumber t.1 v) same_number h.number;
@@ -446,35 +447,36 @@ module _ (ctx : ExprCtx) (Asked : Node → Type 0) (x : ExecutionContext) (asks 
       type = subst (λ t. HasType t v) same_type h.type;
     }
 
-    calm_here : Asked here → IfCalm ctx Asked x here parts.kind ns
+    calm_here : Asked here → IfCalm ctx Asked (lone x) here parts.kind ns
     calm_here whole none =
         let e = same_effects ∙ none in
         record {
-          leaves = λ old. subst (λ m. Leaves old (m.value x)) same_meaning (asks.leaves here whole e old);
-          elements = λ old. subst (λ m. Leaves old (m.elements x)) same_meaning (asks.elements here whole e old);
-          gives = subst (λ m. GivesBy (Fits ctx own here parts.kind (judgements ctx Asked x ns)) (m.value x)) same_meaning (weaker_gives fits_here (asks.gives here whole e));
+          leaves = λ old. subst (λ m. Leaves old (m.value (lone x))) same_meaning (asks.leaves here whole e old);
+          elements = λ old. subst (λ m. Leaves old (m.elements (lone x))) same_meaning (asks.elements here whole e old);
+          gives = subst (λ m. GivesBy (Fits ctx own here parts.kind (judgements ctx Asked (lone x) ns)) (m.value (lone x))) same_meaning (weaker_gives fits_here (asks.gives here whole e));
         }
 
-    told_here : (P Q : Value → Type 0) → ((v : Value) → P v → Q v) → Told ctx Asked x P ((meant ctx Asked x here parts.kind ns).value x) → Told ctx Asked x Q ((meaning here).value x)
+    told_here : (P Q : Value → Type 0) → ((v : Value) → P v → Q v) → Told ctx Asked (lone x) P ((meant ctx Asked (lone x) here parts.kind ns).value (lone x)) → Told ctx Asked (lone x) Q ((meaning here).value (lone x))
     told_here P Q f h = record {
-      leaves = λ old. subst (λ m. Leaves old (m.value x)) (sym same_meaning) (h.leaves old);
-      gives = weaker_gives f (subst (λ m. GivesBy P (m.value x)) (sym same_meaning) h.gives);
+      leaves = λ old. subst (λ m. Leaves old (m.value (lone x))) (sym same_meaning) (h.leaves old);
+      gives = weaker_gives f (subst (λ m. GivesBy P (m.value (lone x))) (sym same_meaning) h.gives);
     }
 
-    steady_roll : Steady ctx Asked x here
+    steady_roll : Steady ctx Asked (lone x) here
     steady_roll = record {
-      truth = λ whole pure. told_here (TruthHere ctx Asked x here parts.kind ns) (AsTruth ctx Asked x (judged ctx here))
+      truth = λ whole pure. told_here (TruthHere ctx Asked (lone x) here parts.kind ns) (AsTruth ctx Asked (lone x) (judged ctx here))
           (λ v h. (subst (λ (t : Purity × KnownOr Bool). HasTruth t.1 v) (sym same_truth) h.0, subst (λ t. HasType t v) (sym same_type) h.1))
-          (layer_truth ctx Asked x here parts.kind ns (asked_below whole) (calm_here whole) (sym (ap (λ (t : Purity × KnownOr Bool). t.0) same_truth) ∙ pure));
-      number = λ whole pure. told_here (NumberHere ctx Asked x here parts.kind ns) (HasNumber (judged ctx here).number.1)
+          (layer_truth ctx Asked (lone x) here parts.kind ns (asked_below whole) (calm_here whole) (sym (ap (λ (t : Purity × KnownOr Bool). t.0) same_truth) ∙ pure));
+      number = λ whole pure. told_here (NumberHere ctx Asked (lone x) here parts.kind ns) (HasNumber (judged ctx here).number.1)
           (λ v h. subst (λ (t : Purity × KnownOr JsNumber). HasNumber t.1 v) (sym same_number) h)
-          (layer_number ctx Asked x here parts.kind ns (ap (λ (z : Node-F Node). z.children) (out-roll-Node parts) ∙ sym is) (asked_below whole) (calm_here whole) (sym (ap (λ (t : Purity × KnownOr JsNumber). t.0) same_number) ∙ pure));
+          (layer_number ctx Asked (lone x) here parts.kind ns (ap (λ (z : Node-F Node). z.children) (out-roll-Node parts) ∙ sym is) (asked_below whole) (calm_here whole)
+              (sym (ap (λ (t : Purity × KnownOr JsNumber). t.0) same_number) ∙ pure));
       text = λ whole t known old.
-          let h = layer_text ctx Asked x here parts.kind ns (asked_below whole) (calm_here whole) t (sym same_text ∙ known) old in
-          (subst (λ m. Leaves old (m.value x)) (sym same_meaning) h.0, subst (λ m. Leaves old (m.elements x)) (sym same_meaning) h.1);
-      element = λ whole t known old. subst (λ m. Leaves old (m.elements x)) (sym same_meaning)
-          (layer_element ctx Asked x here parts.kind ns (asked_below whole) (calm_here whole) (judged ctx here).text same_text t (is_nothing_by ctx own parts.kind) refl (sym same_element ∙ known) old);
+          let h = layer_text ctx Asked (lone x) here parts.kind ns (asked_below whole) (calm_here whole) t (sym same_text ∙ known) old in
+          (subst (λ m. Leaves old (m.value (lone x))) (sym same_meaning) h.0, subst (λ m. Leaves old (m.elements (lone x))) (sym same_meaning) h.1);
+      element = λ whole t known old. subst (λ m. Leaves old (m.elements (lone x))) (sym same_meaning)
+          (layer_element ctx Asked (lone x) here parts.kind ns (asked_below whole) (calm_here whole) (judged ctx here).text same_text t (is_nothing_by ctx own parts.kind) refl (sym same_element ∙ known) old);
     }
 
-  pub steady : (n : Node) → Steady ctx Asked x n
-  steady = ind-Node (Steady ctx Asked x) (λ parts y is. steady_roll parts y.children (ap (λ z. z.children) is))
+  pub steady : (n : Node) → Steady ctx Asked (lone x) n
+  steady = ind-Node (Steady ctx Asked (lone x)) (λ parts y is. steady_roll parts y.children (ap (λ z. z.children) is))

@@ -10,6 +10,7 @@ use Rattle.ecma_judge_runs.specs.Idle.{is_harmless}
 use Rattle.ecma_runs.specs.Values.{Value}
 use Rattle.ecma_runs.specs.State.{Id, Entered, State}
 use Rattle.ecma_runs.specs.Run.{Ended, TurnsSpent, Run, ◌>>=◌}
+use Rattle.ecma_runs.specs.Enums.{no_enums}
 use Rattle.ecma_runs.specs.Meaning.{Invocation, ExecutionContext, Evaluation, Meaning}
 use Rattle.ecma_runs.specs.Functions.{callee_by, call}
 use Rattle.ecma_runs.specs.Evaluation.{apply}
@@ -35,6 +36,10 @@ abbrev pub called : Meaning → List Value → Evaluation Value
 called callee arguments x = callee.reference x >>= λ r. callee_by x r >>= λ c. call x c arguments
 
 -- ---- what may be known of a context
+
+-- no name is that of a member of an enum, and no member is known
+abbrev pub KnowsNoEnums : ExecutionContext → Type 0
+KnowsNoEnums x = x.known.enums ≡ no_enums x.known.enums.may_change
 
 -- how calls come out: no turn is left, or one is spent, and the function does what it does, whatever calls do in it
 abbrev pub AppliesFunctions : ExecutionContext → Type 0

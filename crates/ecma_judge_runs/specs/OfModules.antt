@@ -16,7 +16,7 @@ use Rattle.ecma_runs.specs.Meaning.{ExecutionContext}
 use Rattle.ecma_runs.specs.Evaluation.{meaning, calls, invoke}
 use Rattle.ecma_runs.specs.Laws.{state_behind}
 use Rattle.ecma_judge_runs.specs.Still.{Still}
-use Rattle.ecma_judge_runs.specs.Called.{are_apart, declares_no_loose, called, Assumed}
+use Rattle.ecma_judge_runs.specs.Called.{KnowsNoEnums, are_apart, declares_no_loose, called, Assumed}
 use Rattle.ecma_judge_runs.specs.Known.{IsAsJudged, ConstructsObjects, is_valued, declares_no_global}
 use Rattle.ecma_judge_runs.specs.Taken.{is_taken}
 use Rattle.ecma_judge_runs.specs.InState.{HasTextIn, HasNumberIn}
@@ -27,10 +27,11 @@ pub record HasNames (ctx : ExprCtx) (declared : List Id) (s : Sort) (n : Node) :
   pub sorted : HasSort s n
   pub told : IsTrue (are_told ctx declared n)
 
--- an execution context in which the code of a module runs, or that of the functions that it calls, however deep: calls are those of the program, and no scope around declares a name with the context of
--- what is not resolved or the empty one. And a name that no scope declares may not be read wherever it stands
+-- an execution context in which the code of a module runs, or that of the functions that it calls, however deep: calls are those of the program, nothing is known of enums,
+-- and no scope around declares a name with the context of what is not resolved or the empty one. And a name that no scope declares may not be read wherever it stands
 pub record IsInModule (ctx : ExprCtx) (x : ExecutionContext) : Type 0 where
   pub off : ctx.is_unresolved_ref_safe ≡ false
+  pub no_enums : KnowsNoEnums x
   pub names : IsTrue (declares_no_loose ctx x.scope)
   pub depth : ℕ
   pub calls : (x.functions.invoke ≡ invoke x.provided x.known) ⊎ (x.functions.invoke ≡ calls x.provided x.known depth)
@@ -68,7 +69,7 @@ CallsOfPureCalleesInModulesAreStill =
 
 abbrev pub WhatIsKnownInModulesIsSo : Type 0
 WhatIsKnownInModulesIsSo =
-    (ctx : ExprCtx) (e : Node) (x : ExecutionContext) (s t : State) (v : Value) → ConstructsObjects x → IsTrue (declares_no_global ctx x.scope) → HasSort sort.Expr e →
+    (ctx : ExprCtx) (e : Node) (x : ExecutionContext) (s t : State) (v : Value) → KnowsNoEnums x → ConstructsObjects x → IsTrue (declares_no_global ctx x.scope) → HasSort sort.Expr e →
     (meaning e).value x s ≡ Done v t → IsAsJudged (judged ctx e) v
 
 abbrev pub WhatIsPureInModulesIsStill : Type 0

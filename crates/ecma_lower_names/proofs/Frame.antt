@@ -152,6 +152,9 @@ module _ (id : Id) where
   nothing-silent n (kind.TsImportEqualsDecl is_export false) ms h = absurd (cc)
   nothing-silent n (kind.TsImportEqualsDecl true true) ms h = (refl, refl)
   nothing-silent n (kind.TsImportEqualsDecl false true) ms h = (refl, refl)
+  nothing-silent n (kind.TsEnumDecl true is_const) ms h = (refl, refl)
+  nothing-silent n (kind.TsEnumDecl false is_const) ms h = absurd (cc)
+  nothing-silent n kind.TsEnumMember ms h = absurd (cc)
   nothing-silent n k ms h = subst (λ b. Silent (cond b (no_effect n) (meant n k ms))) (sym h) (refl, refl)
 
   -- no scope around declares an id in this context

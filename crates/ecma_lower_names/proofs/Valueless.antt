@@ -140,6 +140,9 @@ typed n kind.TsQualifiedName ms h = absurd (cc)
 typed n (kind.TsImportEqualsDecl is_export false) ms h = absurd (cc)
 typed n (kind.TsImportEqualsDecl true true) ms h = refl
 typed n (kind.TsImportEqualsDecl false true) ms h = refl
+typed n (kind.TsEnumDecl true is_const) ms h = refl
+typed n (kind.TsEnumDecl false is_const) ms h = absurd (cc)
+typed n kind.TsEnumMember ms h = absurd (cc)
 typed n k ms h = chosen (has_no_effect k ms) h
   where
     chosen : (b : Bool) → b || is_type_of k ms ≡ true → (cond b (no_effect n) (role_by n k ms)).is_type ≡ true

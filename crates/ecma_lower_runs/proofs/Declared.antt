@@ -12,7 +12,7 @@ use Rattle.ecma_tree.specs.declared.node.Node.{Node, out-Node}
 use Rattle.ecma_forest.proofs.Induction.{by_children}
 use Rattle.ecma_rewriting.proofs.Equations.{list-kind}
 use Rattle.ecma_runs.specs.Declarations.{all_declared, all_imported, all_lexicals, all_names, all_vars, declared_of, default_names_of, has_no_effect, imported_as, imported_from, imported_of, lexicals_of, vars_of}
-use Rattle.ecma_runs.specs.Environment.{empty, ids_of, import_of, is_among, undefined}
+use Rattle.ecma_runs.specs.Environment.{empty, ids_of, import_of, is_among, undefined, unfilled}
 use Rattle.ecma_runs.specs.Evaluation.{constant_meaning, meaning, meaning_by, no_effect, role_by, set_export}
 use Rattle.ecma_runs.specs.Meaning.{Meaning}
 use Rattle.ecma_runs.specs.State.{Binding, Id, default_name, same_id}
@@ -183,6 +183,8 @@ lexicals-by kind.ExportDecl (d ∷ []) c named = more-default (ids_of d.lexicals
 lexicals-by kind.ExportDefaultExpr (e ∷ []) c named = λ id h. either (same_id default_name id) false (or-first (same_id default_name id) (is_among id (e.declared ++ []))) (λ g. no g) h
 lexicals-by kind.ExportDefaultDecl (d ∷ []) c named =
     sub-made (empty false) (λ id. refl) d.default_names (or_default (d.declared ++ [])) (more-default d.default_names d.declared (d.declared ++ []) c.0.default_names (sub-left d.declared []))
+lexicals-by (kind.TsEnumDecl false is_const) (name ∷ members ∷ []) c named =
+    sub-made unfilled (λ id. refl) name.names (or_default (name.names ++ members.declared)) (sub-default name.names (name.names ++ members.declared) (sub-left name.names members.declared))
 lexicals-by k ms c named = sub-nil (or_default (declared_of k ms))
 
 as-by : (o : Option (List ℕ)) (source : List ℕ) (ids : List Id) → Sub (ids_of (imported_as o source ids)) ids
@@ -248,6 +250,12 @@ by-covers n (kind.TsImportEqualsDecl false false) (name ∷ source ∷ []) c nam
 by-covers n (kind.TsImportEqualsDecl true false) (name ∷ source ∷ []) c named =
     either-covers source.is_required (constant_meaning n name (set_export n name source)) (role_by n kind.ExportDecl (constant_meaning n name source ∷ []))
     (constant-covers n name (set_export n name source)) (export-covers n (constant_meaning n name source) (constant-covers n name source))
+by-covers n (kind.TsEnumDecl false is_const) (name ∷ members ∷ []) c named =
+    let covers : Covers (role_by n (kind.TsEnumDecl false is_const) (name ∷ members ∷ [])) = role-covers n (kind.TsEnumDecl false is_const) (name ∷ members ∷ []) c tt in
+    record { vars = covers.vars; lexicals = covers.lexicals; imported = covers.imported; default_names = covers.default_names }
+by-covers n kind.TsEnumMember (name ∷ init ∷ []) c named =
+    let covers : Covers (role_by n kind.TsEnumMember (name ∷ init ∷ [])) = role-covers n kind.TsEnumMember (name ∷ init ∷ []) c tt in
+    record { vars = covers.vars; lexicals = covers.lexicals; imported = covers.imported; default_names = covers.default_names }
 by-covers n k ms c named =
     either-covers (has_no_effect k ms) (no_effect n) (role_by n k ms) (role-covers n (kind.TsTypeAliasDecl false) [] tt tt) (role-covers n k ms c named)
 

@@ -16,6 +16,7 @@ use Rattle.ecma_utils.specs.Expressions.{assign_of, var_decl_of}
 use Rattle.ecma_utils.specs.Quotes.{quoted_ident}
 use Rattle.ecma_runs.specs.Declarations.{has_no_effect}
 use Rattle.ecma_runs.specs.Evaluation.{constant_meaning, meaning, meaning_by, no_effect, role_by, set_export}
+use Rattle.ecma_runs.specs.Enums.{no_enums}
 use Rattle.ecma_runs.specs.Environment.{initialize}
 use Rattle.ecma_runs.specs.Meaning.{ExecutionContext, Meaning}
 use Rattle.ecma_runs.specs.Run.{Run, ◌>>=◌, give}
@@ -32,7 +33,7 @@ use Rattle.ecma_lower.proofs.Singles.{write}
 use Rattle.ecma_lower_strip.proofs.Items.{Item, as_import, item-is, rolled}
 use Rattle.ecma_lower_strip.proofs.Resting.{export-out, import-out, one-child, required-out, rest-stays, rests}
 use Rattle.ecma_lower_runs.proofs.Assigning.{AreFree, GivesAlike, as_called, called-alike, exports-alike, last-declared, last-means, last-same}
-use Rattle.ecma_lower_runs.proofs.Meanings.{constant-means, export-role, means, required-form, required-means, side-same, variable-means}
+use Rattle.ecma_lower_runs.proofs.Meanings.{ReadsAlike, constant-means, export-role, means, required-form, required-means, side-same, variable-means}
 use Rattle.ecma_lower_runs.proofs.Sequences.{IsItem}
 
 -- ---- what is done behind all items
@@ -68,6 +69,8 @@ rest-by n kind.ParenExpr ms r h = no h
 rest-by n kind.TsTypeAnn ms r h = no h
 rest-by n kind.TsTypeParamDecl ms r h = no h
 rest-by n kind.TsTypeParamInstantiation ms r h = no h
+rest-by n (kind.TsEnumDecl false is_const) (name ∷ members ∷ []) r h = record { last = refl; last_declared = refl }
+rest-by n kind.TsEnumMember ms r h = no h
 rest-by n k ms r h = either-done (has_no_effect k ms) (no_effect n) (role_by n k ms) (nothing-done n) (record { last = refl; last_declared = refl })
 
 rest-done : (n : Node) → rests (out-Node n).kind ≡ true → IsItem n → IsDone (meaning n)
@@ -87,6 +90,19 @@ import-done : (n : Node) (e : Bool) (a b : Meaning) → IsDone (import_means n e
 import-done n false a b = record { last = refl; last_declared = refl }
 import-done n true a b =
     either-done b.is_required (constant_meaning n a (set_export n a b)) (role_by n kind.ExportDecl (constant_meaning n a b ∷ [])) (record { last = refl; last_declared = refl }) (record { last = refl; last_declared = refl })
+
+-- ---- `export =`
+
+export-kind : (k : Kind) → is_export_by k ≡ true → k ≡ kind.TsExportAssignment
+export-kind kind.TsExportAssignment h = refl
+export-kind _ h = no h
+
+pub export-form : (n : Node) → IsItem n → is_export_assignment n ≡ true → (e : Node) × (n ≡ node_of (out-Node n).span kind.TsExportAssignment (e ∷ []))
+export-form n h t =
+    let is = export-kind (out-Node n).kind t in
+    let cs = (out-Node n).children in
+    let single = one-child (one sort.Expr) cs (subst (λ k. HaveShapes (child_shapes k (one sort.ModuleItem) (length cs)) cs) is (shape-out n (one sort.ModuleItem) h).1) in
+    (single.0, rolled n kind.TsExportAssignment is ∙ ap (node_of (out-Node n).span kind.TsExportAssignment) single.1)
 
 -- ---- items, before and behind
 
@@ -125,27 +141,47 @@ module _ (x : ExecutionContext) where
     done_behind = record { last = refl; last_declared = refl };
   }
 
+  exported-remains : (n : Node) (a b v : Meaning) → GivesAlike x b v → RemainsAlike (role_by n kind.ExportDecl (constant_meaning n a b ∷ [])) (role_by n kind.ExportDecl (constant_meaning n a v ∷ []))
+  exported-remains n a b v alike =
+      let inner = constant-remains n a b v alike in
+      record {
+        stands = record { hoisted = refl; vars = refl; lexicals = refl; exports = refl };
+        completion = inner.completion;
+        declared = ap (λ (ids : List Id). ids ++ []) inner.declared;
+        done = record { last = refl; last_declared = refl };
+        done_behind = record { last = refl; last_declared = refl };
+      }
+
   module _ (free : ℕ) where
     abbrev function : Ident
     function = quoted_ident free dummy_span (codes "require")
 
     -- either nothing is written with free names, or the three are free
+    abbrev pub Written : Names → Type 0
+    Written names = (names ≡ record { required = None; free = None }) ⊎ ((names ≡ record { required = Some function; free = Some free }) × AreFree free x)
+
+    abbrev pub KnowsNone : Type 0
+    KnowsNone = (may_change : Bool) × (x.known.enums ≡ no_enums may_change)
+
+    -- and nothing is known of enums
     abbrev pub Frees : Names → Type 0
-    Frees names = (names ≡ record { required = None; free = None }) ⊎ ((names ≡ record { required = Some function; free = Some free }) × AreFree free x)
+    Frees names = Written names × KnowsNone
 
     -- ---- an alias
 
-    alias-means : (names : Names) (e : Bool) (span : Span) (n a b v : Node) → meaning v ≡ meaning b → is_required (out-Node b).kind ≡ false → HasShape (one sort.TsModuleRef) b
-        → meaning (import_of names false e span (a ∷ v ∷ [])) ≡ import_means n e (meaning a) (meaning b)
-    alias-means names false span n a b v same named h = constant-means n span a v ∙ ap (constant_meaning n (meaning a)) same
-    alias-means names true span n a b v same named h =
+    alias-remains : (names : Names) (e : Bool) (span : Span) (n a b v : Node) → GivesAlike x (meaning b) (meaning v) → is_required (out-Node b).kind ≡ false → HasShape (one sort.TsModuleRef) b
+        → RemainsAlike (import_means n e (meaning a) (meaning b)) (meaning (import_of names false e span (a ∷ v ∷ [])))
+    alias-remains names false span n a b v alike named h =
+        subst (RemainsAlike (constant_meaning n (meaning a) (meaning b))) (sym (constant-means n span a v)) (constant-remains n (meaning a) (meaning b) (meaning v) alike)
+    alias-remains names true span n a b v alike named h =
         let declaration = var_decl_of Const (declared a) v in
         let whole = node_of span kind.ExportDecl (declaration ∷ []) in
-        let of_constant = constant_meaning n (meaning a) (meaning b) in
-        means span kind.ExportDecl (declaration ∷ [])
-        ∙ ap (λ (m : Meaning). meaning_by whole kind.ExportDecl (m ∷ [])) (variable-means n a v ∙ ap (constant_meaning n (meaning a)) same)
-        ∙ export-role whole n (of_constant ∷ [])
-        ∙ sym (ap (λ (q : Bool). cond q (constant_meaning n (meaning a) (set_export n (meaning a) (meaning b))) (role_by n kind.ExportDecl (of_constant ∷ []))) (required-means b h ∙ named))
+        let before = constant_meaning n (meaning a) (meaning b) in
+        let behind = constant_meaning n (meaning a) (meaning v) in
+        subst (λ (q : Bool). RemainsAlike (cond q (constant_meaning n (meaning a) (set_export n (meaning a) (meaning b))) (role_by n kind.ExportDecl (before ∷ []))) (meaning whole)) (sym (required-means b h ∙ named))
+        (subst (RemainsAlike (role_by n kind.ExportDecl (before ∷ [])))
+        (sym (means span kind.ExportDecl (declaration ∷ []) ∙ ap (λ (m : Meaning). meaning_by whole kind.ExportDecl (m ∷ [])) (variable-means n a v) ∙ export-role whole n (behind ∷ [])))
+        (exported-remains n (meaning a) (meaning b) (meaning v) alike))
 
     -- ---- a required module
 
@@ -179,12 +215,12 @@ module _ (x : ExecutionContext) where
 
       required-remains : (e : Bool) (span : Span) (a b : Node) → HasShape (one sort.Ident) a → HasShape (one sort.TsModuleRef) b → is_required (out-Node b).kind ≡ true
           → RemainsAlike (import_means (node_of span (as_import e) (a ∷ b ∷ [])) e (meaning a) (meaning b)) (meaning (import_of names true e span (a ∷ side b ∷ [])))
-      required-remains e span a b ha hb r = by frees
+      required-remains e span a b ha hb r = by frees.0
         where
           form : (source : Node) × (b ≡ node_of (out-Node b).span kind.TsExternalModuleRef (source ∷ [])) × (side b ≡ required_of names.required (out-Node b).span (source ∷ []))
           form = required-side b hb r
 
-          by : Frees names → RemainsAlike (import_means (node_of span (as_import e) (a ∷ b ∷ [])) e (meaning a) (meaning b)) (meaning (import_of names true e span (a ∷ side b ∷ [])))
+          by : Written names → RemainsAlike (import_means (node_of span (as_import e) (a ∷ b ∷ [])) e (meaning a) (meaning b)) (meaning (import_of names true e span (a ∷ side b ∷ [])))
           by (inl none) =
               let same : side b ≡ b = form.2 ∙ ap (λ (z : Names). required_of z.required (out-Node b).span (form.0 ∷ [])) none ∙ sym form.1 in
               equal-remains (import_means (node_of span (as_import e) (a ∷ b ∷ [])) e (meaning a) (meaning b)) (meaning (import_of names true e span (a ∷ side b ∷ [])))
@@ -202,9 +238,8 @@ module _ (x : ExecutionContext) where
           → RemainsAlike (import_means (node_of span (as_import e) (a ∷ b ∷ [])) e (meaning a) (meaning b)) (meaning (import_of names q e span (a ∷ side b ∷ [])))
       import-remains true e span a b ha hb r = required-remains e span a b ha hb r
       import-remains false e span a b ha hb r =
-          equal-remains (import_means (node_of span (as_import e) (a ∷ b ∷ [])) e (meaning a) (meaning b)) (meaning (import_of names false e span (a ∷ side b ∷ [])))
-          (alias-means names e span (node_of span (as_import e) (a ∷ b ∷ [])) a b (side b) (side-same names b hb r) r hb)
-          (import-done (node_of span (as_import e) (a ∷ b ∷ [])) e (meaning a) (meaning b))
+          let same : ReadsAlike x (meaning b) (meaning (side b)) = side-same names x frees.1.0 frees.1.1 b hb r in
+          alias-remains names e span (node_of span (as_import e) (a ∷ b ∷ [])) a b (side b) (record { value = same.value; initial = same.initial; declared = same.declared }) r hb
 
       -- ---- any item but `export =`
 
@@ -260,17 +295,6 @@ module _ (x : ExecutionContext) where
             exports = ap (λ (m : Meaning). m.exports None) read;
           }
 
-      export-kind : (k : Kind) → is_export_by k ≡ true → k ≡ kind.TsExportAssignment
-      export-kind kind.TsExportAssignment h = refl
-      export-kind _ h = no h
-
-      pub export-form : (n : Node) → IsItem n → is_export_assignment n ≡ true → (e : Node) × (n ≡ node_of (out-Node n).span kind.TsExportAssignment (e ∷ []))
-      export-form n h t =
-          let is = export-kind (out-Node n).kind t in
-          let cs = (out-Node n).children in
-          let single = one-child (one sort.Expr) cs (subst (λ k. HaveShapes (child_shapes k (one sort.ModuleItem) (length cs)) cs) is (shape-out n (one sort.ModuleItem) h).1) in
-          (single.0, rolled n kind.TsExportAssignment is ∙ ap (node_of (out-Node n).span kind.TsExportAssignment) single.1)
-
       pub export-alike : (n : Node) → IsItem n → is_export_assignment n ≡ true → ExportsAlike (meaning n) (meaning (to n))
       export-alike n h t =
           let form = export-form n h t in
@@ -300,7 +324,7 @@ module _ (x : ExecutionContext) where
 
     pub export-now : AreFree free x → (n : Node) → IsItem n → is_export_assignment n ≡ true → RunsNow (meaning n) (meaning (write with_free seat.Item n))
     export-now are n h t =
-        let form = export-form with_free (inr (refl, are)) n h t in
+        let form = export-form n h t in
         let span = (out-Node n).span in
         let e = form.0 in
         subst (λ z. RunsNow (meaning z) (meaning (write with_free seat.Item z))) (sym form.1)
@@ -314,5 +338,5 @@ module _ (x : ExecutionContext) where
     -- or it stays as it is
     pub export-stays : (n : Node) → IsItem n → is_export_assignment n ≡ true → write without_free seat.Item n ≡ n
     export-stays n h t =
-        let form = export-form without_free (inl refl) n h t in
+        let form = export-form n h t in
         ap (write without_free seat.Item) form.1 ∙ export-out without_free (out-Node n).span form.0 ∙ sym form.1

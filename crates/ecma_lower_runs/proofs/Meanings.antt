@@ -1,5 +1,5 @@
 -- What the nodes mean that are written for assignments, and which of them mean what stood there.
-use Rattle.std.proofs.Common.{◌≡◌, ◌∙◌, ℕ, Bool, true, false, refl, sym, ap, subst, List, [], ◌∷◌, map, length, Some, slice_get}
+use Rattle.std.proofs.Common.{◌≡◌, ◌∙◌, ℕ, Bool, true, false, refl, sym, ap, subst, List, [], ◌∷◌, ◌++◌, map, length, Some, slice_get}
 use Rattle.ecma_kind.specs.Sorts.{belongs}
 use Rattle.ecma_kind.specs.declared.kind.Kind.{Kind}
 use Rattle.ecma_kind.specs.declared.kind.Kind.TheVariants as kind
@@ -12,8 +12,14 @@ use Rattle.ecma_tree.specs.Sorted.{HasShape, child_shapes, one}
 use Rattle.ecma_tree.specs.declared.node.Node.{Node, out-Node}
 use Rattle.ecma_tree.proofs.ShapeLaws.{node_has_shape}
 use Rattle.ecma_utils.specs.Expressions.{var_decl_of}
+use Rattle.ecma_runs.specs.Enums.{Enums, no_enums, reading}
+use Rattle.ecma_runs.specs.Environment.{Reference}
 use Rattle.ecma_runs.specs.Evaluation.{constant_meaning, meaning, meaning_by, role_by}
-use Rattle.ecma_runs.specs.Meaning.{Meaning}
+use Rattle.ecma_runs.specs.Expressions.{known_reference, member_of, member_reference, read_member}
+use Rattle.ecma_runs.specs.Functions.{read}
+use Rattle.ecma_runs.specs.Meaning.{ExecutionContext, Meaning}
+use Rattle.ecma_runs.specs.Run.{Run, ◌>>=◌}
+use Rattle.ecma_runs.specs.State.{Id}
 use Rattle.ecma_runs.proofs.Layer.{meaning-roll, meaning_out}
 use Rattle.ecma_strip_rewriting.proofs.Commuting.{by-parts}
 use Rattle.ecma_strip_rewriting.proofs.PlainKinds.{no, shape-out}
@@ -46,9 +52,6 @@ binding-role n m ms = refl
 
 absent-role : (n m : Node) → role_by n kind.Absent [] ≡ role_by m kind.Absent []
 absent-role n m = refl
-
-member-role : (n m : Node) (ms : List Meaning) → role_by n kind.MemberExpr ms ≡ role_by m kind.MemberExpr ms
-member-role n m ms = refl
 
 pub export-role : (n m : Node) (ms : List Meaning) → role_by n kind.ExportDecl ms ≡ role_by m kind.ExportDecl ms
 export-role n m ms = refl
@@ -99,33 +102,69 @@ name-text a h = let s = shape-out a (one sort.Ident) h in ap (λ (m : Meaning). 
 
 -- ---- the right side of an import
 
--- a dotted name means the member that is written for it
-module _ (names : Names) where
+-- where nothing is known of enums, a dotted name does what the member does that is written for it
+pub record ReadsAlike (x : ExecutionContext) (m m' : Meaning) : Type 0 where
+  pub value : m'.value x ≡ m.value x
+  pub initial : m'.initial x ≡ m.initial x
+  pub reference : m'.reference x ≡ m.reference x
+  pub declared : m'.declared ≡ m.declared
+
+module _ (names : Names) (x : ExecutionContext) (may_change : Bool) (unknown : x.known.enums ≡ no_enums may_change) where
   abbrev to : Node → Node
   to = write names seat.Value
 
-  name-stays : (span : Span) (text : List ℕ) (ctxt : ℕ) (optional : Bool) (cs : List Node) → meaning (to (node_of span (kind.Ident text ctxt optional) cs)) ≡ meaning (node_of span (kind.Ident text ctxt optional) cs)
-  name-stays span text ctxt optional cs = ap meaning (rest-stays names seat.Value (node_of span (kind.Ident text ctxt optional) cs) (ap rests (kind-roll span (kind.Ident text ctxt optional) cs)))
+  abbrev Same : Node → Type 0
+  Same n = ReadsAlike x (meaning n) (meaning (to n))
 
-  dotted-same : (span : Span) (l r : Node) → meaning (to l) ≡ meaning l → meaning (to (node_of span kind.TsQualifiedName (l ∷ r ∷ []))) ≡ meaning (node_of span kind.TsQualifiedName (l ∷ r ∷ []))
+  equal-reads : (m m' : Meaning) → m' ≡ m → ReadsAlike x m m'
+  equal-reads m m' same = record {
+    value = ap (λ (z : Meaning). z.value x) same;
+    initial = ap (λ (z : Meaning). z.initial x) same;
+    reference = ap (λ (z : Meaning). z.reference x) same;
+    declared = ap (λ (z : Meaning). z.declared) same;
+  }
+
+  name-stays : (span : Span) (text : List ℕ) (ctxt : ℕ) (optional : Bool) (cs : List Node) → Same (node_of span (kind.Ident text ctxt optional) cs)
+  name-stays span text ctxt optional cs =
+      let n = node_of span (kind.Ident text ctxt optional) cs in
+      equal-reads (meaning n) (meaning (to n)) (ap meaning (rest-stays names seat.Value n (ap rests (kind-roll span (kind.Ident text ctxt optional) cs))))
+
+  -- no read of a member is known
+  member-unknown : (n : Node) (object key : Meaning) → read_member n object key x ≡ member_reference object key x
+  member-unknown n object key = ap (λ (enums : Enums). known_reference (reading enums n) (member_reference object key) x) unknown
+
+  member-same : (n n' : Node) (object object' key : Meaning) → ReadsAlike x object object' → read_member n' object' key x ≡ read_member n object key x
+  member-same n n' object object' key same =
+      member-unknown n' object' key ∙ (λ i. same.reference i >>= λ r. member_of x r (key.key x)) ∙ sym (member-unknown n object key)
+
+  members-read : (n n' : Node) (object object' key : Meaning) → ReadsAlike x object object' → ReadsAlike x (role_by n kind.MemberExpr (object ∷ key ∷ [])) (role_by n' kind.MemberExpr (object' ∷ key ∷ []))
+  members-read n n' object object' key same =
+      let referred = member-same n n' object object' key same in
+      record {
+        value = ap (λ (z : Run Reference). z >>= λ r. read x r) referred;
+        initial = ap (λ (z : Run Reference). z >>= λ r. read x r) referred;
+        reference = referred;
+        declared = ap (λ (z : List Id). z ++ (key.declared ++ [])) same.declared;
+      }
+
+  dotted-same : (span : Span) (l r : Node) → Same l → Same (node_of span kind.TsQualifiedName (l ∷ r ∷ []))
   dotted-same span l r same =
       let before = node_of span kind.TsQualifiedName (l ∷ r ∷ []) in
       let behind = node_of span kind.MemberExpr (to l ∷ r ∷ []) in
-      ap meaning (qualified-out names span l r)
-      ∙ means span kind.MemberExpr (to l ∷ r ∷ [])
-      ∙ ap (λ (m : Meaning). role_by behind kind.MemberExpr (m ∷ meaning r ∷ [])) same
-      ∙ member-role behind before (meaning l ∷ meaning r ∷ [])
-      ∙ sym (means span kind.TsQualifiedName (l ∷ r ∷ []))
+      let is : meaning (to before) ≡ role_by behind kind.MemberExpr (meaning (to l) ∷ meaning r ∷ []) = ap meaning (qualified-out names span l r) ∙ means span kind.MemberExpr (to l ∷ r ∷ []) in
+      let was : meaning before ≡ role_by before kind.MemberExpr (meaning l ∷ meaning r ∷ []) = means span kind.TsQualifiedName (l ∷ r ∷ []) in
+      subst (λ m. ReadsAlike x m (meaning (to before))) (sym was)
+      (subst (ReadsAlike x (role_by before kind.MemberExpr (meaning l ∷ meaning r ∷ []))) (sym is) (members-read before behind (meaning l) (meaning (to l)) (meaning r) same))
 
   abbrev Entity : Node → Type 0
-  Entity n = HasShape (one sort.TsEntityName) n → meaning (to n) ≡ meaning n
+  Entity n = HasShape (one sort.TsEntityName) n → Same n
 
   entity-by : (span : Span) (k : Kind) (cs : List Node) → belongs sort.TsEntityName k ≡ true → HaveShapes (child_shapes k (one sort.TsEntityName) (length cs)) cs
-      → ((i : ℕ) (c : Node) → slice_get cs i ≡ Some c → Entity c) → meaning (to (node_of span k cs)) ≡ meaning (node_of span k cs)
+      → ((i : ℕ) (c : Node) → slice_get cs i ≡ Some c → Entity c) → Same (node_of span k cs)
   entity-by span (kind.Ident text ctxt optional) cs b h each = name-stays span text ctxt optional cs
   entity-by span kind.TsQualifiedName cs b h each =
       let parts = two-children (one sort.TsEntityName) (one sort.IdentName) cs h in
-      subst (λ z. meaning (to (node_of span kind.TsQualifiedName z)) ≡ meaning (node_of span kind.TsQualifiedName z)) (sym parts.2)
+      subst (λ z. Same (node_of span kind.TsQualifiedName z)) (sym parts.2)
       (dotted-same span parts.0 parts.1 (each 0 parts.0 (ap (λ (z : List Node). slice_get z 0) parts.2) parts.3))
   entity-by span _ cs b h each = no b
 
@@ -134,20 +173,20 @@ module _ (names : Names) where
 
   -- so any right side that is no required module
   side-by : (span : Span) (k : Kind) (cs : List Node) → belongs sort.TsModuleRef k ≡ true → HaveShapes (child_shapes k (one sort.TsModuleRef) (length cs)) cs → is_required k ≡ false
-      → meaning (to (node_of span k cs)) ≡ meaning (node_of span k cs)
+      → Same (node_of span k cs)
   side-by span (kind.Ident text ctxt optional) cs b h r = name-stays span text ctxt optional cs
   side-by span kind.TsQualifiedName cs b h r =
       let parts = two-children (one sort.TsEntityName) (one sort.IdentName) cs h in
-      subst (λ z. meaning (to (node_of span kind.TsQualifiedName z)) ≡ meaning (node_of span kind.TsQualifiedName z)) (sym parts.2)
+      subst (λ z. Same (node_of span kind.TsQualifiedName z)) (sym parts.2)
       (dotted-same span parts.0 parts.1 (entity-same parts.0 parts.3))
   side-by span kind.TsExternalModuleRef cs b h r = no (sym r)
   side-by span _ cs b h r = no b
 
-  pub side-same : (b : Node) → HasShape (one sort.TsModuleRef) b → is_required (out-Node b).kind ≡ false → meaning (to b) ≡ meaning b
+  pub side-same : (b : Node) → HasShape (one sort.TsModuleRef) b → is_required (out-Node b).kind ≡ false → Same b
   side-same b h r =
       let is = rolled b (out-Node b).kind refl in
       let s = shape-out b (one sort.TsModuleRef) h in
-      subst (λ z. meaning (to z) ≡ meaning z) (sym is) (side-by (out-Node b).span (out-Node b).kind (out-Node b).children s.0 s.1 r)
+      subst Same (sym is) (side-by (out-Node b).span (out-Node b).kind (out-Node b).children s.0 s.1 r)
 
 -- a required module is one
 required-by : (n : Node) (k : Kind) (cs : List Node) → belongs sort.TsModuleRef k ≡ true → HaveShapes (child_shapes k (one sort.TsModuleRef) (length cs)) cs → (meaning_by n k (map meaning cs)).is_required ≡ is_required k

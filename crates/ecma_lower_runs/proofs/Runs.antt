@@ -11,12 +11,16 @@ use Rattle.ecma_tree.specs.Sorted.{HasSort}
 use Rattle.ecma_tree.specs.declared.node.Node.{Node}
 use Rattle.ecma_runs.specs.declared.script.Script.{Script}
 use Rattle.ecma_runs.specs.Declarations.{all_declared, all_exports, all_last_declared, all_lexicals, all_vars}
-use Rattle.ecma_runs.specs.Environment.{ToFree, ToVariable, ids_of, is_among, new_environment}
+use Rattle.ecma_runs.specs.Environment.{ToFree, ToVariable, filled, ids_of, is_among, new_environment, resolved}
 use Rattle.ecma_runs.specs.Evaluation.{meaning, meaning_by}
 use Rattle.ecma_runs.specs.Exports.{Exported}
+use Rattle.ecma_runs.specs.Expressions.{named}
+use Rattle.ecma_runs.proofs.Names.{ids_of-filled}
 use Rattle.ecma_runs.specs.Host.{provided_by}
-use Rattle.ecma_runs.specs.Meaning.{ExecutionContext, Meaning}
-use Rattle.ecma_runs.specs.Observation.{module_activation, module_context, observe, observed, run_actions, shown_to_host, start}
+use Rattle.ecma_runs.specs.Meaning.{ExecutionContext, Known, Meaning}
+use Rattle.ecma_runs.specs.Enums.{Enums, bare, enum_of, is_hidden, lacks_enums, no_enums}
+use Rattle.ecma_runs.proofs.EnumTrees.{bare_lacking_enums}
+use Rattle.ecma_runs.specs.Observation.{enums_of, known_of, module_activation, module_context, observe, observed, run_actions, shown_to_host, start}
 use Rattle.ecma_runs.specs.Run.{◌>>=◌, give, outside, when}
 use Rattle.ecma_runs.specs.State.{Binding, Entered, Id, default_name, same_id}
 use Rattle.ecma_runs.specs.Statements.{all_completions, all_hoisted, all_last}
@@ -34,38 +38,40 @@ use Rattle.ecma_strip_rewriting.proofs.PlainKinds.{no}
 use Rattle.ecma_lower_runs.specs.Laws.{DeclaresNone, LoweredTreesDeclareAlike, LoweredTreesRunAlike}
 use Rattle.ecma_lower_runs.proofs.Assigning.{AreFree, IsFree}
 use Rattle.ecma_lower_runs.proofs.Declared.{locals-declared, or_default}
-use Rattle.ecma_lower_runs.proofs.Items.{Frees, RunsNow, export-alike, export-now, export-stays, item-remains, item-stands}
+use Rattle.ecma_lower_runs.proofs.Items.{Written, Frees, RunsNow, export-alike, export-now, export-stays, item-remains, item-stands}
 use Rattle.ecma_lower_runs.proofs.Meanings.{means}
 use Rattle.ecma_lower_runs.proofs.Sequences.{IsItem, Shifts, Step, gather, lists, moved-same, moved-shifted, steps}
 
 -- ---- what is observed of a module is observed of what these are, in the context of its run
 
 module _ (turns : ℕ) (options : Config) (script : Script) where
-  abbrev context : List Id → Entered → ExecutionContext
-  context ids place = module_context (provided_by script) (record { declared = ids }) place
+  abbrev context : Known → Entered → ExecutionContext
+  context known place = module_context (provided_by script) known place
 
   -- the context of the run of a module
   abbrev pub at_run : Node → ExecutionContext
-  at_run n = context (meaning n).declared (record { place = 0; ids = ids_of (meaning n).locals })
+  at_run n = context (known_of options n) (record { place = 0; ids = ids_of (map filled (meaning n).locals) })
 
   pub record RunsAt (n m : Node) : Type 0 where
     pub locals : (meaning m).locals ≡ (meaning n).locals
     pub declared : (meaning m).declared ≡ (meaning n).declared
+    pub enums : enums_of options m ≡ enums_of options n
     pub exports : (meaning m).exports None ≡ (meaning n).exports None
     pub hoisted : (meaning m).hoisted (at_run n) ≡ (meaning n).hoisted (at_run n)
     pub completion : (meaning m).completion (at_run n) ≡ (meaning n).completion (at_run n)
 
   pub observed-at : (n m : Node) → RunsAt n m → observe turns options m script ≡ observe turns options n script
   observed-at n m same =
-      (λ i. observed
-      ((new_environment (same.locals i) (Some module_activation) >>= λ place.
-      shown_to_host ((meaning m).hoisted (context (same.declared i) place) >>= λ _. (meaning m).completion (context (same.declared i) place) >>= λ _. give Undefined) >>= λ outcome.
-      run_actions (context (same.declared i) place) (same.exports i) script.actions outcome)
+      (λ i. let known : Known = record { declared = same.declared i; enums = same.enums i } in
+      observed
+      ((new_environment (map filled (same.locals i)) (Some module_activation) >>= λ place.
+      shown_to_host ((meaning m).hoisted (context known place) >>= λ _. (meaning m).completion (context known place) >>= λ _. give Undefined) >>= λ outcome.
+      run_actions (context known place) (same.exports i) script.actions outcome)
       (start turns script)))
       ∙ (λ i. observed
       ((shown_to_host (same.hoisted i >>= λ _. same.completion i >>= λ _. give Undefined) >>= λ outcome.
       run_actions (at_run n) ((meaning n).exports None) script.actions outcome)
-      (record (start turns script) { environments = record { bindings = (meaning n).locals; activation = Some module_activation } ∷ [] })))
+      (record (start turns script) { environments = record { bindings = map filled (meaning n).locals; activation = Some module_activation } ∷ [] })))
 
 -- ---- names that are free there
 
@@ -102,12 +108,24 @@ module _ (free : ℕ) (text : List ℕ) where
       by true e = no (sym h ∙ sub id e)
       by false e = refl
 
-  module _ (turns : ℕ) (options : Config) (script : Script) (tree : Node) (sorted : HasSort sort.Module tree) (none : DeclaresNone free tree) where
-    pub free-there : same_id default_name id ≡ false → IsFree free (at_run turns options script tree) text
+  module _ (turns : ℕ) (options : Config) (script : Script) (tree : Node) (sorted : HasSort sort.Module tree) (none : DeclaresNone free tree) (unknown : enums_of options tree ≡ no_enums options.ts_enum_is_mutable) where
+    abbrev there : ExecutionContext
+    there = at_run turns options script tree
+
+    -- nothing is known of enums there
+    no-member : enum_of id there.known.enums.names ≡ None
+    no-member = ap (λ (enums : Enums). enum_of id enums.names) unknown
+
+    not-hidden : is_hidden there.known.enums id ≡ false
+    not-hidden = ap (λ (enums : Enums). is_hidden enums id) unknown
+
+    pub free-there : same_id default_name id ≡ false → IsFree free there text
     free-there h =
         let declared = none-among (meaning tree).declared none in
         let local = not-among (ids_of (meaning tree).locals) (or_default (meaning tree).declared) (locals-declared tree sorted) (none-default h (meaning tree).declared declared) in
-        λ i. when (local i) (give (ToVariable 0 id)) (when (declared i) outside (give (ToFree text)))
+        let outer = ap (is_among id) (ids_of-filled (meaning tree).locals) ∙ local in
+        (λ i. named (no-member i) id there) ∙ (λ i. when (not-hidden i) outside (resolved there.scope there.known.declared id))
+        ∙ (λ i. when (outer i) (give (ToVariable 0 id)) (when (declared i) outside (give (ToFree text))))
 
 -- ---- a module, by what is made of its items
 
@@ -214,9 +232,9 @@ module _ (span : Span) (shebang : Option (List ℕ)) (place : Span) where
     declares_last n = (meaning n).last_declared
 
     shifts : Shifts steps to is_export_assignment does_last does does_last × Shifts (lists Id) to is_export_assignment declares_last declares declares_last
-    shifts = by frees
+    shifts = by frees.0
       where
-        by : Frees x free names → Shifts steps to is_export_assignment does_last does does_last × Shifts (lists Id) to is_export_assignment declares_last declares declares_last
+        by : Written x free names → Shifts steps to is_export_assignment does_last does does_last × Shifts (lists Id) to is_export_assignment declares_last declares declares_last
         by (inr (is, are)) =
             let now = λ (n : Node) (i : IsItem n) (t : is_export_assignment n ≡ true). subst (λ (z : Names). RunsNow x free (meaning n) (meaning (write z seat.Item n))) (sym is) (export-now x free are n i t) in (
               inl ((λ n i t. (now n i t).completion), (λ n i t. ap (λ f. f x) (now n i t).done.last)),
@@ -251,12 +269,13 @@ module _ (span : Span) (shebang : Option (List ℕ)) (place : Span) where
     abbrev written : List Node
     written = map (write names seat.Item) (exports_last ns)
 
-    pub whole-runs : Frees here free names → RunsAt turns options script (whole ns) (whole written)
-    whole-runs frees = record {
+    pub whole-runs : Frees here free names → enums_of options (whole written) ≡ enums_of options (whole ns) → RunsAt turns options script (whole ns) (whole written)
+    whole-runs frees known = record {
       locals =
           locals-whole written ∙ ap₂ (λ (a b : List Binding). a ++ b) (vars-same here free names frees ns h) (lexicals-same here free names frees ns h)
           ∙ sym (locals-whole ns);
       declared = whole-declares here free names frees ns h;
+      enums = known;
       exports = exports-whole written ∙ exports-same here free names frees ns h ∙ sym (exports-whole ns);
       hoisted = hoisted-whole here written ∙ hoisted-same here free names frees ns h ∙ sym (hoisted-whole here ns);
       completion = completion-whole here written ∙ completion-same here free names frees ns h ∙ sym (completion-whole here ns);
@@ -264,43 +283,54 @@ module _ (span : Span) (shebang : Option (List ℕ)) (place : Span) where
 
 -- ---- the laws
 
-names-free : (x : ExecutionContext) (free : ℕ) → AreFree free x → (assign : TsImportExportAssignConfig) → Frees x free (names_of assign free None)
-names-free x free are way.Classic = inr (refl, are)
-names-free x free are way.Preserve = inl refl
-names-free x free are way.NodeNext = inl refl
-names-free x free are way.EsNext = inl refl
+names-written : (x : ExecutionContext) (free : ℕ) → AreFree free x → (assign : TsImportExportAssignConfig) → Written x free (names_of assign free None)
+names-written x free are way.Classic = inr (refl, are)
+names-written x free are way.Preserve = inl refl
+names-written x free are way.NodeNext = inl refl
+names-written x free are way.EsNext = inl refl
 
-module _ (turns : ℕ) (options : Config) (script : Script) (free : ℕ) (tree : Node) (sorted : HasSort sort.Module tree) (none : DeclaresNone free tree) where
+names-free : (x : ExecutionContext) (free : ℕ) → AreFree free x → (may_change : Bool) → x.known.enums ≡ no_enums may_change → (assign : TsImportExportAssignConfig) → Frees x free (names_of assign free None)
+names-free x free are may_change unknown assign = (names-written x free are assign, (may_change, unknown))
+
+module _ (turns : ℕ) (options : Config) (script : Script) (free : ℕ) (tree : Node) (sorted : HasSort sort.Module tree) (none : DeclaresNone free tree)
+    (unknown : enums_of options tree ≡ no_enums options.ts_enum_is_mutable) where
   are-free : AreFree free (at_run turns options script tree)
   are-free = record {
-    of_require = free-there free (codes "require") turns options script tree sorted none refl;
-    of_exports = free-there free (codes "exports") turns options script tree sorted none refl;
-    of_module = free-there free (codes "module") turns options script tree sorted none refl;
+    of_require = free-there free (codes "require") turns options script tree sorted none unknown refl;
+    of_exports = free-there free (codes "exports") turns options script tree sorted none unknown refl;
+    of_module = free-there free (codes "module") turns options script tree sorted none unknown refl;
   }
 
 pub lowered_trees_run_alike : LoweredTreesRunAlike
-lowered_trees_run_alike assign free tree sorted taken unrefused none turns options script =
+lowered_trees_run_alike assign free tree sorted taken unrefused none none_before none_behind turns options script =
     let form = module-form tree sorted in
     let names = names_of assign free None in
     let whole : List Node → Node = as_module form.0 form.1 form.2 in
-    subst (λ z. Frees (at_run turns options script z) free names → observe turns options (with_assignments_lowered assign free z) script ≡ observe turns options z script) (sym form.4)
-    (λ frees. ap (λ z. observe turns options z script) (module-lowered form.0 form.1 form.2 assign free form.3)
-    ∙ observed-at turns options script (whole form.3) (whole (map (write names seat.Item) (exports_last form.3)))
-    (whole-runs form.0 form.1 form.2 turns options script free names form.3 form.5 frees))
-    (names-free (at_run turns options script tree) free (are-free turns options script free tree sorted none) assign)
+    let written : List Node = map (write names seat.Item) (exports_last form.3) in
+    subst (λ z. Frees (at_run turns options script z) free names → lacks_enums (bare z) ≡ true → lacks_enums (bare (with_assignments_lowered assign free z)) ≡ true
+    → observe turns options (with_assignments_lowered assign free z) script ≡ observe turns options z script) (sym form.4)
+    (λ frees before behind.
+    let known : enums_of options (whole written) ≡ enums_of options (whole form.3) =
+    bare_lacking_enums options (whole written) (subst (λ z. lacks_enums (bare z) ≡ true) (module-lowered form.0 form.1 form.2 assign free form.3) behind)
+    ∙ sym (bare_lacking_enums options (whole form.3) before) in
+    ap (λ z. observe turns options z script) (module-lowered form.0 form.1 form.2 assign free form.3)
+    ∙ observed-at turns options script (whole form.3) (whole written) (whole-runs form.0 form.1 form.2 turns options script free names form.3 form.5 frees known))
+    (names-free (at_run turns options script tree) free (are-free turns options script free tree sorted none (bare_lacking_enums options tree none_before)) options.ts_enum_is_mutable
+    (bare_lacking_enums options tree none_before) assign)
+    none_before none_behind
 
 -- where nothing is declared each name is free
-abbrev bare : ExecutionContext
-bare = record {
+abbrev nowhere : ExecutionContext
+nowhere = record {
   functions = record { invoke = λ function how arguments. outside; fields = λ function object. outside };
   scope = [];
   provided = record { imports = []; frees = []; meta_url = [] };
-  known = record { declared = [] };
+  known = record { declared = []; enums = no_enums false };
 }
 
 pub lowered_trees_declare_alike : LoweredTreesDeclareAlike
 lowered_trees_declare_alike assign free tree sorted =
     let form = module-form tree sorted in
-    let frees = names-free bare free (record { of_require = refl; of_exports = refl; of_module = refl }) assign in
+    let frees = names-free nowhere free (record { of_require = refl; of_exports = refl; of_module = refl }) false refl assign in
     subst (λ z. (meaning (with_assignments_lowered assign free z)).declared ≡ (meaning z).declared) (sym form.4)
-    (ap (λ z. (meaning z).declared) (module-lowered form.0 form.1 form.2 assign free form.3) ∙ whole-declares form.0 form.1 form.2 bare free (names_of assign free None) frees form.3 form.5)
+    (ap (λ z. (meaning z).declared) (module-lowered form.0 form.1 form.2 assign free form.3) ∙ whole-declares form.0 form.1 form.2 nowhere free (names_of assign free None) frees form.3 form.5)

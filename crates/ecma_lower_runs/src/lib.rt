@@ -5,7 +5,7 @@
 
 ghost use Rattle.ecma_lower_runs.specs.Laws.{LoweredTreesDeclareAlike, LoweredTreesRunAlike};
 
-/// A module runs with its assignments lowered as it does, where it declares no name in the context of free names.
+/// A module in which no enum stays runs with its assignments lowered as it does, where it declares no name in the context of free names.
 pub fn lowered_trees_run_alike()
     ensures { LoweredTreesRunAlike }
 {}

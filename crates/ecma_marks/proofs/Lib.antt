@@ -4,6 +4,7 @@ pub mod Before
 pub mod Export
 pub mod Interfaces
 pub mod Captures
+pub mod Enums
 pub mod Runs
 pub mod Walks
 pub mod Clauses

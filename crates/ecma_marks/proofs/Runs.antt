@@ -9,18 +9,20 @@ use Rattle.ecma_lower.specs.Marking.{empty_export}
 use Rattle.ecma_runs.specs.declared.script.Script.{Script}
 use Rattle.ecma_runs.specs.Declarations.{all_declared, all_exports, all_last_declared, all_lexicals, all_vars}
 use Rattle.ecma_runs.specs.Evaluation.{meaning, meaning_by}
-use Rattle.ecma_runs.specs.Environment.{new_environment}
-use Rattle.ecma_runs.specs.Exports.{Exported}
+use Rattle.ecma_runs.specs.Environment.{filled, new_environment}
+use Rattle.ecma_runs.specs.Enums.{bare, enums_in}
+use Rattle.ecma_runs.specs.Exports.{Exported, local_ids}
 use Rattle.ecma_runs.specs.Host.{provided_by}
-use Rattle.ecma_runs.specs.Meaning.{Known, Meaning}
-use Rattle.ecma_runs.specs.Observation.{module_activation, module_context, observe, observed, run_actions, shown_to_host, start}
+use Rattle.ecma_runs.specs.Meaning.{ExecutionContext, Known, Meaning}
+use Rattle.ecma_runs.specs.Observation.{enums_of, module_activation, module_context, observe, observed, run_actions, shown_to_host, start}
 use Rattle.ecma_runs.specs.Run.{◌>>=◌, give}
-use Rattle.ecma_runs.specs.State.{Binding, Id}
+use Rattle.ecma_runs.specs.State.{Binding, Entered, Id}
 use Rattle.ecma_runs.specs.Statements.{all_completions, all_hoisted, all_last}
 use Rattle.ecma_runs.specs.Values.{Undefined}
 use Rattle.ecma_runs.proofs.Layer.{meaning-roll}
 use Rattle.ecma_marks.specs.Laws.{MarkedTreesRunAlike}
 use Rattle.ecma_marks.proofs.Adding.{where-it-may-come}
+use Rattle.ecma_marks.proofs.Enums.{known-same}
 use Rattle.ecma_marks.proofs.Modules.{list_at, module_at, with_export}
 
 -- ---- what is observed of a module is observed of what these are
@@ -32,15 +34,14 @@ pub record RunsAlike (m m' : Meaning) : Type 0 where
   pub declared : m'.declared ≡ m.declared
   pub exports : m'.exports None ≡ m.exports None
 
-abbrev known : List Id → Known
-known ids = record { declared = ids }
-
-pub observed-alike : (turns : ℕ) (options : Config) (n n' : Node) (script : Script) → RunsAlike (meaning n) (meaning n') → observe turns options n' script ≡ observe turns options n script
-observed-alike turns options n n' script same = λ i.
+pub observed-alike : (turns : ℕ) (options : Config) (n n' : Node) (script : Script) → RunsAlike (meaning n) (meaning n') → enums_of options n' ≡ enums_of options n → observe turns options n' script ≡ observe turns options n script
+observed-alike turns options n n' script same stay = λ i.
+    let known : Known = record { declared = same.declared i; enums = stay i } in
+    let around : Entered → ExecutionContext = λ place. module_context (provided_by script) known place in
     observed
-    ((new_environment (same.locals i) (Some module_activation) >>= λ place.
-    shown_to_host (same.hoisted i (module_context (provided_by script) (known (same.declared i)) place) >>= λ _. same.completion i (module_context (provided_by script) (known (same.declared i)) place) >>= λ _. give Undefined) >>= λ outcome.
-    run_actions (module_context (provided_by script) (known (same.declared i)) place) (same.exports i) script.actions outcome)
+    ((new_environment (map filled (same.locals i)) (Some module_activation) >>= λ place.
+    shown_to_host (same.hoisted i (around place) >>= λ _. same.completion i (around place) >>= λ _. give Undefined) >>= λ outcome.
+    run_actions (around place) (same.exports i) script.actions outcome)
     (start turns script))
 
 -- ---- an item that does nothing, declares nothing and exports nothing
@@ -150,9 +151,18 @@ export-idle = record {
   exports = ap (λ (m : Meaning). m.exports None) export_means ∙ ap (λ (m : Meaning). m.exports (meaning absent).text) none_means;
 }
 
+-- and in which no enum stands
+export-enums : (options : Config) (span : Span) (shebang : Option (List ℕ)) (place : Span) (ns : List Node)
+    → enums_of options (module_at span shebang place (with_export ns)) ≡ enums_of options (module_at span shebang place ns)
+export-enums options span shebang place ns =
+    let same : RunsAlike (meaning (module_at span shebang place ns)) (meaning (module_at span shebang place (with_export ns))) = whole-runs empty_export export-idle span shebang place ns in
+    (λ i. enums_in options (same.declared i) (local_ids (same.exports i)) (bare (module_at span shebang place (with_export ns))))
+    ∙ known-same options (meaning (module_at span shebang place ns)).declared (local_ids ((meaning (module_at span shebang place ns)).exports None)) span shebang place ns
+
 pub marked_trees_run_alike : MarkedTreesRunAlike
 marked_trees_run_alike no_empty_export was_module tree h turns options script =
     where-it-may-come (λ z. observe turns options z script ≡ observe turns options tree script) no_empty_export was_module tree h
     (λ span shebang place ns items before.
-    observed-alike turns options (module_at span shebang place ns) (module_at span shebang place (with_export ns)) script (whole-runs empty_export export-idle span shebang place ns) ∙ before)
+    observed-alike turns options (module_at span shebang place ns) (module_at span shebang place (with_export ns)) script (whole-runs empty_export export-idle span shebang place ns)
+    (export-enums options span shebang place ns) ∙ before)
     refl

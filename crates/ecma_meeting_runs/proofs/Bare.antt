@@ -11,15 +11,15 @@ use Rattle.ecma_hygiene.proofs.Telling.{and-both, and-left}
 use Rattle.ecma_runs.specs.State.{Id}
 use Rattle.ecma_runs.specs.Meaning.{Meaning}
 use Rattle.ecma_runs.specs.Evaluation.{meaning}
-use Rattle.ecma_runs.specs.Observation.{exports_in, known_of}
+use Rattle.ecma_runs.specs.Observation.{exports_in}
 use Rattle.ecma_runs.specs.Sought.{sought_in}
-use Rattle.ecma_runs.proofs.Kept.{kept}
-use Rattle.ecma_runs.proofs.Layers.{KeepsLayers, images, layers_alike, same_bindings, same_exports, same_ids, the_same}
+use Rattle.ecma_runs.proofs.Layers.{KeepsLayers, same_bindings, same_exports, same_ids}
 use Rattle.ecma_runs.proofs.Seeking.{sought-roll}
 use Rattle.ecma_hygiene_runs.specs.ExportsApart.{apart, exports_apart, exports_by, specifier_apart, specifier_by, specifiers_apart, specifiers_by}
 use Rattle.ecma_hygiene_runs.specs.KeyNames.{is_name_by}
 use Rattle.ecma_hygiene_runs.specs.WrittenOut.{identifier_by, key_node, leaf_text, name_node, other_by, other_out, out_by, pattern_by, pattern_with, properties_by, properties_out, property_by, property_key_node, property_out, written_out}
 use Rattle.ecma_hygiene_runs.proofs.Apart.{apart-of, apart_layers}
+use Rattle.ecma_hygiene_runs.proofs.KeptParts.{parts-kept}
 use Rattle.ecma_hygiene_runs.proofs.Parts.{out-roll, parts_of}
 use Rattle.ecma_hygiene_runs.proofs.WritingOut.{written_out_layers}
 use Rattle.ecma_meeting_runs.proofs.Spelled.{beside, literal, literal_by, spelled, spelled-layers, spelled-of, spelled_by}
@@ -38,7 +38,7 @@ bare n = bared (written_out n)
 
 alike-kept : (f : Node → Node) → KeepsLayers f → (n : Node) → Alike (meaning (f n)) (meaning n)
 alike-kept f layers n =
-    let same = kept (images f (known_of n) the_same) (layers_alike f (known_of n) the_same layers) n tt in
+    let same = parts-kept f layers n in
     record {
       names = same.names ∙ same_ids (meaning n).names;
       default_names = same.default_names ∙ same_ids (meaning n).default_names;
@@ -75,7 +75,7 @@ bare-alike n =
     alike-then (alike-kept spelled spelled-layers (exports_apart (written_out n))) (alike-then (alike-kept exports_apart apart_layers (written_out n)) (written-alike n))
 
 exports-kept : (f : Node → Node) → KeepsLayers f → (n : Node) → exports_in (f n) ≡ exports_in n
-exports-kept f layers n = (kept (images f (known_of n) the_same) (layers_alike f (known_of n) the_same layers) n tt).exports None ∙ same_exports (exports_in n)
+exports-kept f layers n = (parts-kept f layers n).exports None ∙ same_exports (exports_in n)
 
 pub bare-exports : (n : Node) → exports_in (bare n) ≡ exports_in n
 bare-exports n =

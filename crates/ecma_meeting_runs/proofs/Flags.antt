@@ -144,6 +144,8 @@ module _ (to : Id → Id) (this : (id : Id) → bytes_eq (to id).sym (codes "thi
   layer-flags n' n (kind.TsImportEqualsDecl true false) (name ∷ source ∷ []) =
       bare-flags (either-bare source.second.is_required (record { is_absent = refl; is_this = refl; is_type = refl; has_body = refl }) (record { is_absent = refl; is_this = refl; is_type = refl; has_body = refl }))
       (either-bare source.first.is_required (record { is_absent = refl; is_this = refl; is_type = refl; has_body = refl }) (record { is_absent = refl; is_this = refl; is_type = refl; has_body = refl }))
+  layer-flags n' n (kind.TsEnumDecl false is_const) (name ∷ members ∷ []) = record { is_absent = refl; is_this = refl; is_type = refl; has_body = refl }
+  layer-flags n' n kind.TsEnumMember (name ∷ init ∷ []) = record { is_absent = refl; is_this = refl; is_type = refl; has_body = refl }
   layer-flags n' n k ps =
       either-flags (has_no_effect (renamed_ident to k) (news ps)) (has_no_effect k (olds ps)) {x' = no_effect n'} {x = no_effect n} {y' = role_by n' (renamed_ident to k) (news ps)} {y = role_by n k (olds ps)}
       (effect-kept k (news ps) ∙ effect-alike k ps) (unaffected n' n) (role-flags n' n k ps)

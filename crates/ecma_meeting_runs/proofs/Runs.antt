@@ -22,7 +22,8 @@ use Rattle.ecma_runs.specs.Meeting.{MayMeet, catches_none, exports_meet, module_
 use Rattle.ecma_runs.specs.Names.{TextsStay, ids_pass, keys_in, passes_by, passes_here, renamed}
 use Rattle.ecma_runs.specs.Observation.{exports_in, observe}
 use Rattle.ecma_runs.specs.Sought.{outside_of, seeker, sought_in}
-use Rattle.ecma_runs.proofs.Layers.{observe_kept}
+use Rattle.ecma_runs.proofs.EnumTrees.{Lacks}
+use Rattle.ecma_runs.proofs.Layers.{observe_lacking}
 use Rattle.ecma_hygiene_meeting.specs.Meets.{Meets}
 use Rattle.ecma_hygiene_meeting.specs.Texts.{sent}
 use Rattle.ecma_hygiene_runs.specs.ExportsApart.{exports_apart}
@@ -31,11 +32,12 @@ use Rattle.ecma_hygiene_runs.specs.OuterNames.{NamesAreOuter}
 use Rattle.ecma_hygiene_runs.specs.WrittenOut.{written_out}
 use Rattle.ecma_hygiene_runs.proofs.Apart.{apart_layers, renamed-apart}
 use Rattle.ecma_hygiene_runs.proofs.FinalTree.{turned-everywhere}
+use Rattle.ecma_hygiene_runs.proofs.LackingEnums.{apart-lacks, final-lacks, out-lacks, renamed-lacks}
 use Rattle.ecma_hygiene_runs.proofs.WritingOut.{written_out_layers}
 use Rattle.ecma_meeting_runs.specs.Laws.{MeetingTextsKeepRuns}
 use Rattle.ecma_meeting_runs.proofs.Bare.{bare, bare-alike, bare-asks, bare-exports}
 use Rattle.ecma_meeting_runs.proofs.Seeking.{among-outside, catches-fewer}
-use Rattle.ecma_meeting_runs.proofs.Spelled.{spelled, spelled-layers}
+use Rattle.ecma_meeting_runs.proofs.Spelled.{spelled, spelled-lacks, spelled-layers}
 use Rattle.ecma_meeting_runs.proofs.SpelledNames.{keys-stay, renamed-spelled}
 
 -- each id stands
@@ -75,6 +77,7 @@ module _ (to : Id → Id) (tree : Node) (meets : Meets to tree) where
   bare-meets keys =
       let alike = bare-alike tree in
       record {
+        no_enums = spelled-lacks (exports_apart (written_out tree)) (apart-lacks (written_out tree) (out-lacks tree meets.no_enums));
         stands = any;
         all_stand = stand (bare tree);
         none_caught = (bare-asks to tree).meets meets.none_caught;
@@ -106,16 +109,18 @@ module _ (law : NamesMayMeet) (onto : ℕ → ℕ) (texts : Texts) (tree : Node)
 
   runs : (turns : ℕ) (options : Config) (script : Script) → observe turns options (with_contexts (λ text ctxt. onto ctxt) (hygiene.renamed texts tree)) script ≡ observe turns options tree script
   runs turns options script =
-      sym (observe_kept written_out written_out_layers turns options (with_contexts (λ text ctxt. onto ctxt) (hygiene.renamed texts tree)) script)
+      let out : Lacks (written_out tree) = out-lacks tree meets.no_enums in
+      let exported : Lacks shown = apart-lacks (written_out tree) out in
+      sym (observe_lacking written_out written_out_layers out-lacks turns options (with_contexts (λ text ctxt. onto ctxt) (hygiene.renamed texts tree)) script (final-lacks onto texts none tree meets.no_enums))
       ∙ ap (λ n. observe turns options n script) (turned-everywhere onto texts none empty tree role.Root spot.Elsewhere outer.named)
-      ∙ sym (observe_kept exports_apart apart_layers turns options (renamed to (written_out tree)) script)
+      ∙ sym (observe_lacking exports_apart apart_layers apart-lacks turns options (renamed to (written_out tree)) script (renamed-lacks to (written_out tree) out))
       ∙ ap (λ n. observe turns options n script) (sym (renamed-apart to (written_out tree)))
-      ∙ sym (observe_kept spelled spelled-layers turns options (renamed to shown) script)
+      ∙ sym (observe_lacking spelled spelled-layers spelled-lacks turns options (renamed to shown) script (renamed-lacks to shown exported))
       ∙ ap (λ n. observe turns options n script) (sym (renamed-spelled to shown keys))
       ∙ law turns options (bare tree) script to may-meet
-      ∙ observe_kept spelled spelled-layers turns options shown script
-      ∙ observe_kept exports_apart apart_layers turns options (written_out tree) script
-      ∙ observe_kept written_out written_out_layers turns options tree script
+      ∙ observe_lacking spelled spelled-layers spelled-lacks turns options shown script exported
+      ∙ observe_lacking exports_apart apart_layers apart-lacks turns options (written_out tree) script out
+      ∙ observe_lacking written_out written_out_layers out-lacks turns options tree script meets.no_enums
 
 pub meeting-texts-keep-runs : NamesMayMeet → MeetingTextsKeepRuns
 meeting-texts-keep-runs law turns options onto texts tree script none empty outer meets = runs law onto texts tree none empty outer meets turns options script

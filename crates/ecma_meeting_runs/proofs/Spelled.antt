@@ -1,6 +1,6 @@
 -- Trees in which the other name of a specifier is a text, and the name of an import beside one is none: `import { a as b } from "m"` as if `a` were no text, and "b" stood for `b`.
 -- So these names are neither keys nor looked up. A tree means what it means so, layer by layer.
-use Rattle.std.proofs.Common.{◌≡◌, refl, sym, ap, ap₂, ◌∙◌, List, [], ◌∷◌, ◌++◌, map, None, Bool, true, false, cond}
+use Rattle.std.proofs.Common.{◌≡◌, refl, sym, ap, ap₂, ◌∙◌, List, [], ◌∷◌, ◌++◌, map, None, Bool, true, false, not, cond}
 use Rattle.ecma_kind.specs.declared.kind.Kind.{Kind}
 use Rattle.ecma_kind.specs.declared.kind.Kind.TheVariants as kind
 use Rattle.ecma_kind.specs.declared.span.Span.{Span}
@@ -14,6 +14,10 @@ use Rattle.ecma_runs.proofs.Layer.{meaning-roll, meaning_out}
 use Rattle.ecma_runs.proofs.Layers.{KeepsLayers, rewritten_layers}
 use Rattle.ecma_hygiene_runs.specs.ExportsApart.{apart}
 use Rattle.ecma_hygiene_runs.specs.KeyNames.{is_name_by}
+use Rattle.ecma_runs.specs.Enums.{is_enum}
+use Rattle.ecma_runs.proofs.EnumTrees.{Lacks, rewritten_lacks}
+use Rattle.ecma_runs.proofs.Kept.{AllNodes}
+use Rattle.ecma_hygiene_runs.proofs.LackingEnums.{apart-name, lacks-of}
 use Rattle.ecma_hygiene_runs.proofs.Parts.{parts_of}
 use Rattle.ecma_hygiene_runs.proofs.Renaming.{there_by}
 
@@ -118,3 +122,24 @@ layer-kept x k cs is are = meaning-roll x ∙ ap₂ (λ z zs. meaning_by (roll-N
 
 pub spelled-layers : KeepsLayers spelled
 spelled-layers = rewritten_layers spelled_here (λ x. layer-kept x x.kind x.children refl refl)
+
+-- a tree without enums has none so
+
+literal-lacks : (k : Kind) (cs : List Node) (span : Span) (n : Node) → Lacks n → Lacks (literal_by k cs span n)
+literal-lacks (kind.Ident text ctxt optional) [] span n h = lacks-of span (kind.Str text None) [] refl tt
+literal-lacks k cs span n h = h
+
+either-lacks : (b : Bool) (m n : Node) → Lacks m → Lacks n → Lacks (cond b m n)
+either-lacks true m n p q = p
+either-lacks false m n p q = q
+
+layer-lacks : (span : Span) (k : Kind) (cs : List Node) → not (is_enum k) ≡ true → AllNodes Lacks cs → Lacks (spelled_by k cs (parts_of span k cs))
+layer-lacks span (kind.ImportNamedSpecifier t) (name ∷ other ∷ []) h all =
+    lacks-of span (kind.ImportNamedSpecifier t) (beside span name other ∷ literal other ∷ []) refl
+    (either-lacks (is_name_by (out-Node other).kind) (apart span name) name (apart-name span name all.0) all.0, (literal-lacks (out-Node other).kind (out-Node other).children (out-Node other).span other all.1.0, tt))
+layer-lacks span (kind.ExportNamedSpecifier t) (name ∷ other ∷ []) h all =
+    lacks-of span (kind.ExportNamedSpecifier t) (name ∷ literal other ∷ []) refl (all.0, (literal-lacks (out-Node other).kind (out-Node other).children (out-Node other).span other all.1.0, tt))
+layer-lacks span k cs h all = lacks-of span k cs h all
+
+pub spelled-lacks : (n : Node) → Lacks n → Lacks (spelled n)
+spelled-lacks = rewritten_lacks spelled_here (λ x here below. layer-lacks x.span x.kind x.children here below)

@@ -9,6 +9,8 @@ use Rattle.ecma_bind.specs.Binding.{with_bound_names}
 use Rattle.ecma_config.specs.declared.config.TsImportExportAssignConfig.{TsImportExportAssignConfig}
 use Rattle.ecma_enclose.specs.Enclosing.{enclosed}
 use Rattle.ecma_enclose_runs.specs.Laws.{EnclosedTreesRunAlike}
+use Rattle.ecma_enclose_runs.proofs.Untaken.{taken_lacks_enums}
+use Rattle.ecma_forms.specs.Forms.{first_untaken}
 use Rattle.ecma_enclose_scopes.specs.Laws.{EnclosedTreesDeclareAlike, EnclosedTreesTakeAsManyContexts}
 use Rattle.ecma_enclose_sources.specs.Laws.{EnclosedTreesAreRead, EnclosedTreesAreTaken}
 use Rattle.ecma_exports_hygiene.specs.Laws.{ExportsThatAreNotCapturedKeepTheirTexts}
@@ -37,6 +39,8 @@ use Rattle.ecma_sources.specs.Sources.{IsReading}
 use Rattle.ecma_runs.specs.State.{Id}
 use Rattle.ecma_strip.specs.Stripping.{stripped}
 use Rattle.ecma_pipeline_interface.specs.Laws.{BoundSourcesHaveTheirInterface, WrittenTreesHaveTheirInterface}
+use Rattle.ecma_pipeline_plain.specs.Laws.{ResolvedTreesAreTaken}
+use Rattle.ecma_pipeline_runs.proofs.NoEnums.{alone-bare}
 use Rattle.ecma_pipeline_spans.specs.Laws.{BindingMakesNoNames, ContextsMakeNoNames, EnclosingMakesNoNames}
 use Rattle.ecma_ready.specs.Ready.{DeclaresItsTextsOnce, HasOwnContexts, IsReady}
 use Rattle.ecma_pipeline.specs.Laws.{BoundSourcesAreReady, BoundSourcesRunAlike, ReadyTreesAreWritten, WrittenModulesDoWhatTheirSourcesDo}
@@ -58,6 +62,7 @@ pub record Laws : Type 0 where
   pub bound_runs : BoundSourcesRunAlike
   pub bound_interface : BoundSourcesHaveTheirInterface
   pub contexts_made : ContextsMakeNoNames
+  pub contexts_taken : ResolvedTreesAreTaken
   pub ready : BoundSourcesAreReady
   pub lowered_made : LoweringMakesFreeNamesAlone
   pub declares : ScopesDeclareWhatRunsDeclare
@@ -102,9 +107,12 @@ module _ (laws : Laws) (assign : TsImportExportAssignConfig) (no_empty_export wa
   abbrev whole : Node
   whole = resolved unresolved top left (with_bound_names tree)
 
+  tree_taken : first_untaken assign tree ≡ None
+  tree_taken = laws.enclosed_taken assign source sorted is.taken
+
   lowerable : LowersToReady assign unresolved whole
   lowerable =
-      laws.ready assign unresolved top left tree tree_read (laws.enclosed_short source sorted short) (laws.enclosed_taken assign source sorted is.taken)
+      laws.ready assign unresolved top left tree tree_read (laws.enclosed_short source sorted short) tree_taken
       (laws.enclosed_unrefused assign source sorted ∙ is.unrefused) (laws.enclosed_distinct source sorted ∙ is.distinct)
       (enclosed_given laws.enclosed_contexts unresolved top left source sorted is.given)
 
@@ -180,9 +188,11 @@ module _ (laws : Laws) (assign : TsImportExportAssignConfig) (no_empty_export wa
     runs = λ unresolved' top' left' given' turns options script.
         result.runs unresolved' top' left' given' turns options script
         ∙ laws.marked_runs no_empty_export was_module low low_sorted turns options script
-        ∙ laws.lowered_runs assign unresolved whole whole_sorted lowerable.taken lowerable.unrefused none_free turns options script
-        ∙ laws.bound_runs tree tree_read.fits.sorted unresolved top left turns options script
-        ∙ laws.enclosed_runs source sorted unresolved top left turns options script;
+        ∙ laws.lowered_runs assign unresolved whole whole_sorted lowerable.taken lowerable.unrefused none_free (taken_lacks_enums assign whole lowerable.taken) (alone-bare low lowerable.ready.types)
+        turns options script
+        ∙ laws.bound_runs assign tree tree_read.fits.sorted tree_taken unresolved top left turns options script
+        ∙ laws.enclosed_runs assign source sorted unresolved top left (laws.contexts_taken assign unresolved top left tree tree_taken)
+        (laws.contexts_taken assign unresolved top left source is.taken) turns options script;
   }
 
 pub written_modules : Laws → WrittenModulesDoWhatTheirSourcesDo

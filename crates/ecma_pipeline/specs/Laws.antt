@@ -66,8 +66,8 @@ ReadyTreesAreWritten =
     (assignments : Bool) (free : ℕ) (tree final : Node) → IsReady assignments free tree → DeclaresItsTextsOnce tree → (is : IsHygienic (stripped tree) final)
     → KeepsExportedTexts (text_of (text_in is.names)) (stripped tree) → DoesWhatItsTreeDoes assignments tree final
 
--- a module with bound names, resolved, is observed to do what the resolved module does
+-- a module each form of which is taken, with bound names, resolved, is observed to do what the resolved module does
 abbrev pub BoundSourcesRunAlike : Type 0
 BoundSourcesRunAlike =
-    (source : Node) → HasSort sort.Module source → (unresolved top left : ℕ) (turns : ℕ) (options : Config) (script : Script)
+    (assign : TsImportExportAssignConfig) (source : Node) → HasSort sort.Module source → first_untaken assign source ≡ None → (unresolved top left : ℕ) (turns : ℕ) (options : Config) (script : Script)
     → observe turns options (resolved unresolved top left (with_bound_names source)) script ≡ observe turns options (resolved unresolved top left source) script

@@ -121,6 +121,7 @@ pub fn written_modules_do_what_their_sources_do()
     bound_sources_run_alike();
     bound_sources_have_their_interface();
     contexts_make_no_names();
+    resolved_trees_are_taken();
     bound_sources_are_ready();
     lowering_makes_free_names_alone();
     scopes_declare_what_runs_declare();
@@ -203,7 +204,7 @@ pub fn written_modules_are_not_redeclared()
     spans_do_not_matter_to_conflicts();
 }
 
-/// Runs: a module with its names bound, resolved, is observed to do what the resolved module does.
+/// Runs: a module each form of which is taken, its names bound, resolved, is observed to do what the resolved module does.
 pub fn bound_sources_run_alike()
     ensures { BoundSourcesRunAlike }
 {}

@@ -174,6 +174,8 @@ module _ (id : Id) where
   item-by n (kind.ExportAll false) (c ∷ []) b h p a = absurd h.1
   item-by n (kind.ExportAll false) (c ∷ d ∷ e ∷ cs) b h p a = absurd h.1.1
   item-by n (kind.TsImportEqualsDecl x y) cs b h p a = absurd (true-false (plain-kind (kind.TsImportEqualsDecl x y) cs p) refl)
+  item-by n (kind.TsEnumDecl x y) cs b h p a = absurd (true-false (plain-kind (kind.TsEnumDecl x y) cs p) refl)
+  item-by n kind.TsEnumMember cs b h p a = absurd (true-false b refl)
   item-by n kind.List cs b h p a = absurd (true-false b refl)
   item-by n (kind.Module s) cs b h p a = absurd (true-false b refl)
   item-by n (kind.ExportNamedSpecifier t) cs b h p a = absurd (true-false b refl)

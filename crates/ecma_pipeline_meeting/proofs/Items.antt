@@ -176,6 +176,7 @@ module _ (id : Id) where
   item-by value n kind.TsTypeAnn shape cs around i v p h plain here = absurd (true-false (plain-kind kind.TsTypeAnn cs here) refl)
   item-by value n kind.TsTypeParamDecl shape cs around i v p h plain here = absurd (true-false (plain-kind kind.TsTypeParamDecl cs here) refl)
   item-by value n kind.TsTypeParamInstantiation shape cs around i v p h plain here = absurd (true-false (plain-kind kind.TsTypeParamInstantiation cs here) refl)
+  item-by value n kind.TsEnumMember shape cs around i v p h plain here = absurd (true-false (plain-kind kind.TsEnumMember cs here) refl)
   item-by value n kind.TsQualifiedName shape (left ∷ right ∷ []) around i v p h plain here = refl
   item-by value n kind.TsQualifiedName shape [] around i v p h plain here = absurd h
   item-by value n kind.TsQualifiedName shape (c ∷ []) around i v p h plain here = absurd h.1

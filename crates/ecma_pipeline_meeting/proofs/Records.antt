@@ -21,6 +21,7 @@ use Rattle.ecma_hygiene.proofs.Telling.{true-false}
 use Rattle.ecma_hygiene_scopes.specs.DeclaredIds.{id_here, ids_declared, ids_in, scope_ids}
 use Rattle.ecma_hygiene_scopes.proofs.Membership.{own-agrees}
 use Rattle.ecma_hygiene_runs.specs.Laws.{BindingsAreDeclared}
+use Rattle.ecma_hygiene_runs.proofs.PlainEnums.{plain-lacks}
 use Rattle.ecma_hygiene_runs.specs.Plain.{is_plain}
 use Rattle.ecma_runs.specs.State.{Id, default_name, same_id}
 use Rattle.ecma_runs.specs.Environment.{ids_of, is_among}
@@ -137,4 +138,5 @@ plain_modules_have_records_of_scopes bindings tree fits plain =
       declared = λ id h. bindings tree fits.sorted plain (id.sym, id.ctxt) (own-bound tree nowhere (id.sym, id.ctxt) (module-opens (out-Node tree).kind (is_there (out-Node tree).children 0) whole) h);
       formed = held Stands IsFormed down formed tree nowhere stands;
       records = held Stands IsRecord down is-record tree nowhere stands;
+      no_enums = plain-lacks tree plain;
     }

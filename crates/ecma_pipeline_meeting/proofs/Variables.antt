@@ -175,6 +175,8 @@ module _ (id : Id) where
   vars-by n kind.TsTypeParamDecl cs i p h = absurd (true-false (plain-kind kind.TsTypeParamDecl cs p.here) refl)
   vars-by n kind.TsTypeParamInstantiation cs i p h = absurd (true-false (plain-kind kind.TsTypeParamInstantiation cs p.here) refl)
   vars-by n (kind.TsImportEqualsDecl x y) cs i p h = absurd (true-false (plain-kind (kind.TsImportEqualsDecl x y) cs p.here) refl)
+  vars-by n (kind.TsEnumDecl x y) cs i p h = absurd (true-false (plain-kind (kind.TsEnumDecl x y) cs p.here) refl)
+  vars-by n kind.TsEnumMember cs i p h = absurd (true-false (plain-kind kind.TsEnumMember cs p.here) refl)
   vars-by n (kind.Ident s c o) [] i p h = refl
   vars-by n (kind.Ident s c o) (c₁ ∷ cs) i p h = absurd p.shapes
   vars-by n kind.TsQualifiedName (left ∷ right ∷ []) i p h = refl

@@ -13,7 +13,7 @@ use Rattle.ecma_scope.specs.Declarations.{sought_in}
 use Rattle.ecma_scope.specs.Resolved.{context_count, is_name, taken}
 use Rattle.ecma_scope.specs.Scopes.{covers, opens}
 use Rattle.ecma_hygiene.specs.declared.sight.Sight.{Sight}
-use Rattle.ecma_hygiene.specs.Ids.{Id, Scope, contexts_of, declared_by, declared_here, declared_ids, declares, found, has_context, innermost, is_body_block, is_own, own_ids, same_id, scope_soughts, soughts_in}
+use Rattle.ecma_hygiene.specs.Ids.{Id, Scope, declared_by, declared_here, declared_ids, declares, found, has_context, innermost, is_body_block, is_own, own_ids, same_id, scope_soughts, soughts_in}
 use Rattle.ecma_hygiene.specs.Sights.{Around, around_child, inner_soughts, nowhere, own_scope, sight_by, sight_here, sights, sights_at}
 use Rattle.ecma_hygiene.specs.Texts.{is_bound}
 use Rattle.ecma_hygiene.specs.Walks.{gathered_from}

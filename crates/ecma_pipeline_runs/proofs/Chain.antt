@@ -1,5 +1,5 @@
 -- What a module does, from where it is ready to what is read again, by the laws of each step.
-use Rattle.std.proofs.Common.{◌≡◌, ◌≢◌, ◌==◌, ℕ, ◌+◌, ◌<◌, ◌≤◌, arith, Bool, true, false, List, [], cond, Option, Some, None, unwrap_or, bytes_eq, refl, sym, ap, ◌∙◌, subst, get_or, eq-eqb}
+use Rattle.std.proofs.Common.{◌≡◌, ◌≢◌, ◌==◌, ℕ, ◌+◌, ◌<◌, ◌≤◌, arith, Bool, true, false, List, [], cond, Option, Some, None, unwrap_or, refl, sym, ap, ◌∙◌, subst, get_or, eq-eqb}
 use Rattle.std.specs.List.{All}
 use Rattle.std.proofs.lemmas.Bool.{eqb-true}
 use Rattle.std.proofs.lemmas.List.Elements.{All-cons, All-nil}
@@ -24,15 +24,14 @@ use Rattle.ecma_strip.specs.Stripping.{stripped}
 use Rattle.ecma_strip_fits.specs.Laws.{StrippingKeepsFits, StrippingKeepsSorts}
 use Rattle.ecma_strip_runs.specs.Laws.{StrippingKeepsRuns, OnlyTypesGo}
 use Rattle.ecma_hygiene.specs.declared.naming.Named.{Named}
-use Rattle.ecma_hygiene.specs.Capture.{IsNotCaptured, placed}
-use Rattle.ecma_hygiene.specs.Renamed.{Texts, at_root, renamed, text_of}
+use Rattle.ecma_hygiene.specs.Renamed.{at_root, renamed, text_of}
 use Rattle.ecma_hygiene.specs.Sights.{meetings, nowhere, sights}
 use Rattle.ecma_hygiene.specs.Texts.{HygienicTexts, is_new, text_in}
 use Rattle.ecma_hygiene.proofs.Telling.{true-false}
-use Rattle.ecma_hygiene_scopes.specs.Apart.{IsScoped, TellsScopesApart}
+use Rattle.ecma_hygiene_scopes.specs.Apart.{IsScoped}
 use Rattle.ecma_hygiene_scopes.specs.Collapsed.{collapsed}
 use Rattle.ecma_hygiene_scopes.specs.Laws.{CollapsedContextsAreRight, IsReadAgain, ResolvedCapturesNothing, ResolvedDeclaresEachOnce, ResolvedTellsScopesApart, WrittenModulesStay}
-use Rattle.ecma_hygiene_scopes.specs.Once.{DeclaresEachOnce, DeclaresTextsOnce}
+use Rattle.ecma_hygiene_scopes.specs.Once.{DeclaresEachOnce}
 use Rattle.ecma_hygiene_scopes.specs.StayingModules.{IsStayingModule}
 use Rattle.ecma_hygiene_scopes.specs.Stops.{IsRight, Stop, stops}
 use Rattle.ecma_hygiene_scopes.proofs.Sameness.{stays}
@@ -46,6 +45,7 @@ use Rattle.ecma_hygiene_runs.specs.OuterNames.{NamesAreOuter}
 use Rattle.ecma_hygiene_runs.specs.Plain.{is_plain}
 use Rattle.ecma_hygiene_runs.proofs.Declaring.{unexported}
 use Rattle.ecma_hygiene_runs.proofs.GivenTexts.{given-text}
+use Rattle.ecma_hygiene_runs.proofs.PlainEnums.{plain-lacks}
 use Rattle.ecma_meeting_runs.specs.Laws.{ContextsDoNotMatterToPlain, MeetingTextsKeepRuns, PlainTreesStayPlain}
 use Rattle.ecma_pipeline_meeting.specs.Laws.{PlainFinalTextsMeet, PlainOwnTextsMeet}
 use Rattle.ecma_pipeline_meeting.specs.Telling.{BindsInside, SaysItsScopes, SaysScopes}
@@ -55,6 +55,7 @@ use Rattle.ecma_ready.specs.Ready.{DeclaresItsTextsOnce, IsReady}
 use Rattle.ecma_pipeline_runs.proofs.Binding.{bound-inside}
 use Rattle.ecma_pipeline_runs.proofs.ClearSeats.{module-stands}
 use Rattle.ecma_pipeline_runs.proofs.Full.{modules-are-full}
+use Rattle.ecma_pipeline_runs.proofs.NoEnums.{alone-bare}
 use Rattle.ecma_pipeline_runs.proofs.Names.{bound-other, outer}
 use Rattle.ecma_pipeline_runs.proofs.Ready.{ReadyTreesDeclareTextsOnce, ReadyTreesSayTheirScopes}
 use Rattle.ecma_pipeline_runs.proofs.Receivers.{no-receivers}
@@ -189,7 +190,7 @@ module _ (laws : Laws) (assignments : Bool) (free : ℕ) (r : Node) (is : IsRead
   strip-runs : (turns : ℕ) (options : Config) (script : Script) → observe turns options s script ≡ observe turns options r script
   strip-runs turns options script =
       let stands = module-stands r is.fits is.types in
-      laws.strips turns options r script (laws.types r is.fits.sorted stands.usual (no-receivers r stands.fits))
+      laws.strips turns options r script (laws.types r is.fits.sorted stands.usual (no-receivers r stands.fits)) (alone-bare r is.types) (plain-lacks s plain)
 
   module _ (names : List Named) (texts : HygienicTexts s names) where
     abbrev h : Node
@@ -297,7 +298,7 @@ module _ (laws : Laws) (assignments : Bool) (free : ℕ) (r : Node) (is : IsRead
 
           explicit-runs : observe turns options (resolved unresolved top left (explicit u)) script ≡ observe turns options r script
           explicit-runs =
-              ap (λ n. observe turns options n script) ((laws.parentheses u bare-made.1).same unresolved top left) ∙ laws.alike turns options w script sorted-again ∙ bare-runs
+              ap (λ n. observe turns options n script) ((laws.parentheses u bare-made.1).same unresolved top left) ∙ laws.alike turns options w script sorted-again (plain-lacks w plain-again) ∙ bare-runs
 
           written-runs : observe turns options (resolved unresolved top left written) script ≡ observe turns options r script
           written-runs =

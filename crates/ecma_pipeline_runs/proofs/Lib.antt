@@ -1,4 +1,5 @@
 pub mod Nodes
+pub mod NoEnums
 pub mod Remaining
 pub mod Asking
 pub mod Values

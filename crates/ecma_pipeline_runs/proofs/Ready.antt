@@ -1,5 +1,5 @@
 -- A tree that is ready says without its types which scopes declare its names, and tells them apart, if they have contexts of their own.
-use Rattle.std.proofs.Common.{◌≡◌, ℕ, Bool, true, false, not, ◌&&◌, refl, sym, ap, ◌∙◌, get_or}
+use Rattle.std.proofs.Common.{◌≡◌, ℕ, Bool, true, false, not, ◌&&◌, refl, get_or}
 use Rattle.ecma_kind.specs.declared.shapes.Sort.TheVariants as sort
 use Rattle.ecma_tree.specs.Sorted.{one}
 use Rattle.ecma_tree.specs.declared.node.Node.{Node}

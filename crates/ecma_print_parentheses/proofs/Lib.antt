@@ -12,5 +12,6 @@ pub mod Sorting
 mod Chains
 mod Picking
 mod Ending
+mod LackingEnums
 mod Unlinked
 pub mod Running

@@ -1,5 +1,5 @@
 -- A tree runs as it does where its optional chains end.
-use Rattle.std.proofs.Common.{◌≡◌, ℕ, refl, sym, ap, subst, ◌∙◌, List, [], ◌∷◌, map, length, Bool, true, false, if◌then◌else◌, add-zero}
+use Rattle.std.proofs.Common.{◌≡◌, ℕ, refl, sym, ap, subst, subst₂, ◌∙◌, List, [], ◌∷◌, map, length, None, Some, Bool, true, false, not, if◌then◌else◌, add-zero}
 use Rattle.std.proofs.lemmas.List.{length-map}
 use Rattle.ecma_kind.specs.Sorts.{belongs}
 use Rattle.ecma_kind.specs.declared.span.Span.{Span}
@@ -15,18 +15,27 @@ use Rattle.ecma_tree.specs.Sorted.{HasShape, HasSort, child_shapes, maybe, one}
 use Rattle.ecma_tree.proofs.ShapeLaws.{node_has_shape}
 use Rattle.ecma_config.specs.declared.config.Config.{Config}
 use Rattle.ecma_runs.specs.declared.script.Script.{Script}
-use Rattle.ecma_runs.specs.Observation.{observe, known_of}
-use Rattle.ecma_runs.specs.Meaning.{Meaning, Known}
+use Rattle.ecma_runs.specs.Run.{◌>>=◌, Run, give, given, return}
+use Rattle.ecma_runs.specs.State.{Entered}
+use Rattle.ecma_runs.specs.Enums.{Reading, is_enum, no_enums, reading}
+use Rattle.ecma_runs.specs.Operators.{text_from}
+use Rattle.ecma_runs.specs.Functions.{read}
+use Rattle.ecma_runs.specs.Values.{Value}
+use Rattle.ecma_runs.specs.Observation.{known_of, observe}
+use Rattle.ecma_runs.specs.Environment.{Reference}
+use Rattle.ecma_runs.specs.Meaning.{Meaning, ExecutionContext, Known}
 use Rattle.ecma_runs.specs.Evaluation.{ending_chain, meaning_by, meaning}
-use Rattle.ecma_runs.specs.Expressions.{call_by}
-use Rattle.ecma_runs.proofs.Alike.{Change, outside_alike}
-use Rattle.ecma_runs.proofs.Meanings.{Same, Both, pair, firsts, seconds}
+use Rattle.ecma_runs.specs.Expressions.{call_by, known_reference, member_reference}
+use Rattle.ecma_runs.proofs.Alike.{Change, EnumsStand, AlikeBy, outside_alike}
+use Rattle.ecma_runs.proofs.EnumTrees.{Lacks, lacks_parts, lacks_layer, lacking_enums, no_reading}
+use Rattle.ecma_runs.proofs.Meanings.{at, first, second, Same, Both, pair, firsts, seconds}
 use Rattle.ecma_runs.proofs.Layer.{meaning-roll}
-use Rattle.ecma_runs.proofs.Layers.{plain_starts, images_where, the_same, none_excused, same_kind, kept_layer}
-use Rattle.ecma_runs.proofs.Kept.{StepsAlike, observe_unless}
+use Rattle.ecma_runs.proofs.Layers.{plain_starts, same_names, without_enums, images_where, the_same, none_excused, same_kind, kept_layer}
+use Rattle.ecma_runs.proofs.Kept.{AllNodes, StepsAlike, observe_unless}
 use Rattle.ecma_runs.proofs.Steps.{plain_step}
 use Rattle.ecma_runs.specs.Laws.{ParenthesesDoNotMatter}
-use Rattle.ecma_print_parentheses.proofs.Shaped.{Shaped, AllShaped, all_shaped}
+use Rattle.ecma_print_parentheses.proofs.Shaped.{Shaped}
+use Rattle.ecma_print_parentheses.proofs.LackingEnums.{explicit_lacks, ended_lacks}
 use Rattle.ecma_print.specs.Explicit.{explicit, parenthesized}
 use Rattle.ecma_print_parentheses.specs.Laws.{RunsAlike}
 use Rattle.ecma_print_parentheses.proofs.Ending.{explicit_agrees}
@@ -44,12 +53,26 @@ same_length f [] (n ∷ ns) h = absurd h
 same_length f (shape ∷ shapes) [] h = absurd h
 same_length f (shape ∷ shapes) (n ∷ ns) h = same_length f shapes ns h.1
 
--- what functions keep: a sorted node that means nothing as a link
+-- a sorted node without enums
+abbrev Sound : Node → Type 0
+Sound n = Shaped n × Lacks n
+
+all_sound : (shapes : List Shape) (ns : List Node) → HaveShapes shapes ns → AllNodes Lacks ns → AllNodes Sound ns
+all_sound shapes [] h l = tt
+all_sound [] (n ∷ ns) h l = absurd h
+all_sound (shape ∷ shapes) (n ∷ ns) h l = (((shape, h.0), l.0), all_sound shapes ns h.1 l.1)
+
+-- what functions keep: such a node that means nothing as a link
 abbrev Fine : Node → Type 0
-Fine n = Shaped n × (gives_link (out-Node n).kind ≡ false)
+Fine n = Sound n × (gives_link (out-Node n).kind ≡ false)
 
 absent_fine : Fine absent
-absent_fine = ((maybe sort.Expr, (node_has_shape dummy_span kind.Absent [] (maybe sort.Expr)).1 (refl, tt)), ap (λ y. gives_link y.kind) (out-roll-Node (record { span = dummy_span; kind = kind.Absent; children = [] })))
+absent_fine =
+    (((maybe sort.Expr, (node_has_shape dummy_span kind.Absent [] (maybe sort.Expr)).1 (refl, tt)), lacks_layer (record { span = dummy_span; kind = kind.Absent; children = [] }) refl tt), ap (λ y. gives_link y.kind) (out-roll-Node (record { span = dummy_span; kind = kind.Absent; children = [] })))
+
+no_enum : (b : Bool) → not b ≡ true → b ≡ true → ⊥
+no_enum true h e = cc
+no_enum false h e = cc
 
 abbrev closing : Bool → Meaning → Meaning
 closing b m = if b then ending_chain m else m
@@ -113,9 +136,17 @@ first_closed n kind.TaggedTpl false a d e h g = refl
 first_closed n kind.MemberExpr b a d e h g = absurd (cc)
 first_closed n _ b a d e h g = absurd (cc)
 
-object_closed : (n n' : Node) (b : Bool) (a d : Meaning) → unlinked (meaning_by n kind.MemberExpr (closing b a ∷ d ∷ [])) ≡ unlinked (meaning_by n' kind.MemberExpr (a ∷ d ∷ []))
-object_closed n n' true a d = refl
-object_closed n n' false a d = refl
+object_closed : (n : Node) (b : Bool) (a d : Meaning) → unlinked (meaning_by n kind.MemberExpr (closing b a ∷ d ∷ [])) ≡ unlinked (meaning_by n kind.MemberExpr (a ∷ d ∷ []))
+object_closed n true a d = refl
+object_closed n false a d = refl
+
+-- what a member refers to, by what is known of it, and its value
+
+abbrev referred : Meaning → Meaning → ExecutionContext → Reading → Run Reference
+referred a d x known = known_reference known (member_reference a d) x
+
+abbrev valued : Meaning → Meaning → ExecutionContext → Reading → Run Value
+valued a d x known = referred a d x known >>= λ r. read x r
 
 -- parentheses and types hand on what they stand round
 handed_on : (n n' : Node) (k : Kind) (shape : Shape) (ms : List Meaning) → passes_on k ≡ true → SameLength (child_shapes k shape (length ms)) ms → meaning_by n k (all_unlinked ms) ≡ unlinked (meaning_by n' k ms)
@@ -135,15 +166,19 @@ handed_on n n' kind.TsInstantiation shape _ p h = absurd h
 handed_on n n' kind.TsSatisfiesExpr shape _ p h = absurd h
 handed_on n n' _ shape ms p h = absurd (cc)
 
-module _ (known : Known) where
+module _ (known : Known) (may_change : Bool) (none : known.enums ≡ no_enums may_change) where
+  abbrev known_enums : EnumsStand known.enums same_names true None ended Fine
+  known_enums = without_enums Fine ended same_names true None known.enums may_change none
+
   abbrev c : Change
-  c = images_where Fine ended known the_same
+  c = images_where Fine ended known the_same known_enums
 
   unlinked_same : (m m' : Meaning) → Same c m m' → Same c (unlinked m) (unlinked m')
   unlinked_same m m' same = record {
     link = λ optional w s. outside_alike _;
     value = same.value;
     reference = same.reference;
+    written = same.written;
     assigned = same.assigned;
     initial = same.initial;
     arguments = same.arguments;
@@ -156,6 +191,7 @@ module _ (known : Known) where
     targets = same.targets;
     parameters = same.parameters;
     completion = same.completion;
+    member = same.member;
     varied = same.varied;
     hoisted = same.hoisted;
     last = same.last;
@@ -182,6 +218,7 @@ module _ (known : Known) where
     last_declared = same.last_declared;
     imported = same.imported;
     text = same.text;
+    member_texts = same.member_texts;
     exports = same.exports;
     cooked = same.cooked;
     is_plain = same.is_plain;
@@ -195,20 +232,87 @@ module _ (known : Known) where
     is_constructor = same.is_constructor;
   }
 
-  stepped : (z : Node) → Fine z → (k : Kind) (ps : List (Both c)) → Same c (meaning_by z k (firsts c ps)) (meaning_by (ended z) k (seconds c ps))
-  stepped z fine k ps =
-      subst (λ k'. Same c (meaning_by z k (firsts c ps)) (meaning_by (ended z) k' (seconds c ps))) (same_kind Fine ended known the_same k)
-      (plain_step c refl z fine k ps (kept_layer Fine ended known the_same k (firsts c ps)))
+  -- a member means alike as whichever node, since nothing is known of enums
+  module _ (n n' m m' : Node) (a d a' d' : Meaning) (same : Same c (meaning_by n kind.MemberExpr (a ∷ d ∷ [])) (meaning_by n' kind.MemberExpr (a' ∷ d' ∷ []))) where
+    as_read : {A : Type 0} {b : List Entered} {to : A → A} {P : A → Type 0} (f f' : Reading → Run A) → AlikeBy (at c b) to P (f (reading known.enums n)) (f' (reading known.enums n'))
+        → AlikeBy (at c b) to P (f (reading known.enums m)) (f' (reading known.enums m'))
+    as_read {b = b} {to = to} {P = P} f f' h =
+        subst₂ (λ z z'. AlikeBy (at c b) to P (f z) (f' z')) (no_reading known.enums may_change none n m) (no_reading known.enums may_change none n' m') h
+
+    member_moved : Same c (meaning_by m kind.MemberExpr (a ∷ d ∷ [])) (meaning_by m' kind.MemberExpr (a' ∷ d' ∷ []))
+    member_moved = record {
+      value = λ w s. as_read (valued a d (first (at c _) w)) (valued a' d' (second (at c _) w)) (same.value w s);
+      reference = λ w s. as_read (referred a d (first (at c _) w)) (referred a' d' (second (at c _) w)) (same.reference w s);
+      written = same.written;
+      assigned = same.assigned;
+      initial = λ w s. as_read (valued a d (first (at c _) w)) (valued a' d' (second (at c _) w)) (same.initial w s);
+      arguments = λ w s. as_read (λ z. valued a d (first (at c _) w) z >>= λ v. give (v ∷ [])) (λ z. valued a' d' (second (at c _) w) z >>= λ v. give (v ∷ [])) (same.arguments w s);
+      elements = λ w s. as_read (λ z. valued a d (first (at c _) w) z >>= λ v. give (Some v ∷ [])) (λ z. valued a' d' (second (at c _) w) z >>= λ v. give (Some v ∷ [])) (same.elements w s);
+      texts = λ w s. as_read (λ z. valued a d (first (at c _) w) z >>= λ v. given (text_from v) >>= λ t. give (t ∷ [])) (λ z. valued a' d' (second (at c _) w) z >>= λ v. given (text_from v) >>= λ t. give (t ∷ []))
+          (same.texts w s);
+      key = same.key;
+      chain = λ w s. as_read (λ z. referred a d (first (at c _) w) z >>= λ r. give (Some r)) (λ z. referred a' d' (second (at c _) w) z >>= λ r. give (Some r)) (same.chain w s);
+      link = same.link;
+      bound = same.bound;
+      matched = same.matched;
+      targets = same.targets;
+      parameters = same.parameters;
+      completion = same.completion;
+      member = same.member;
+      varied = same.varied;
+      hoisted = same.hoisted;
+      last = same.last;
+      effect = λ w s. as_read (λ z. valued a d (first (at c _) w) z >>= λ _. give tt) (λ z. valued a' d' (second (at c _) w) z >>= λ _. give tt) (same.effect w s);
+      test = λ w s. as_read (valued a d (first (at c _) w)) (valued a' d' (second (at c _) w)) (same.test w s);
+      caught = same.caught;
+      switched = same.switched;
+      selected = same.selected;
+      made = same.made;
+      default_made = same.default_made;
+      class_made = same.class_made;
+      defined = same.defined;
+      fields = same.fields;
+      statics = same.statics;
+      code = same.code;
+      body = λ names outer opens w s. as_read (λ z. valued a d (first (at c _) w) z >>= λ v. return v) (λ z. valued a' d' (second (at c _) w) z >>= λ v. return v) (same.body names outer opens w s);
+      names = same.names;
+      default_names = same.default_names;
+      lexicals = same.lexicals;
+      vars = same.vars;
+      locals = same.locals;
+      parameter_names = same.parameter_names;
+      declared = same.declared;
+      last_declared = same.last_declared;
+      imported = same.imported;
+      text = same.text;
+      member_texts = same.member_texts;
+      exports = same.exports;
+      cooked = same.cooked;
+      is_plain = same.is_plain;
+      is_computed = same.is_computed;
+      is_super = same.is_super;
+      is_absent = same.is_absent;
+      is_required = same.is_required;
+      is_this = same.is_this;
+      is_type = same.is_type;
+      has_body = same.has_body;
+      is_constructor = same.is_constructor;
+    }
+
+  stepped : (z : Node) → Fine z → (k : Kind) → not (is_enum k) ≡ true → (ps : List (Both c)) → Same c (meaning_by z k (firsts c ps)) (meaning_by (ended z) k (seconds c ps))
+  stepped z fine k here ps =
+      subst (λ k'. Same c (meaning_by z k (firsts c ps)) (meaning_by (ended z) k' (seconds c ps))) (same_kind Fine ended known the_same known_enums k)
+      (plain_step c refl z fine k ps (kept_layer Fine ended known the_same known_enums k (firsts c ps) (λ e. absurd (no_enum (is_enum k) here e))))
 
   closing_same : (b : Bool) (m m' : Meaning) → Same c m m' → Same c (closing b m) (closing b m')
-  closing_same true m m' same = stepped absent absent_fine kind.ParenExpr (pair c m m' same ∷ [])
+  closing_same true m m' same = stepped absent absent_fine kind.ParenExpr refl (pair c m m' same ∷ [])
   closing_same false m m' same = same
 
   -- by itself, where it means nothing as a link, and as a link
   record Runs (n : Node) : Type 0 where
-    apart : Shaped n → Same c (unlinked (meaning n)) (unlinked (run_of n))
-    whole : Shaped n → gives_link (out-Node n).kind ≡ false → Same c (meaning n) (run_of n)
-    link : Shaped n → belongs sort.OptChainBase (out-Node n).kind ≡ true → Same c (meaning n) (meaning (ends_of n).link)
+    apart : Sound n → Same c (unlinked (meaning n)) (unlinked (run_of n))
+    whole : Sound n → gives_link (out-Node n).kind ≡ false → Same c (meaning n) (run_of n)
+    link : Sound n → belongs sort.OptChainBase (out-Node n).kind ≡ true → Same c (meaning n) (meaning (ends_of n).link)
 
   abbrev Child : Type 0
   Child = (n : Node) × Runs n
@@ -216,29 +320,29 @@ module _ (known : Known) where
   abbrev nodes : List Child → List Node
   nodes ns = map (λ e. e.0) ns
 
-  pairs : (ns : List Child) → AllShaped (nodes ns) → List (Both c)
+  pairs : (ns : List Child) → AllNodes Sound (nodes ns) → List (Both c)
   pairs [] h = []
   pairs (n ∷ ns) h = pair c (unlinked (meaning n.0)) (unlinked (run_of n.0)) (n.1.apart h.0) ∷ pairs ns h.1
 
-  firsts-pairs : (ns : List Child) (h : AllShaped (nodes ns)) → firsts c (pairs ns h) ≡ all_unlinked (map meaning (nodes ns))
+  firsts-pairs : (ns : List Child) (h : AllNodes Sound (nodes ns)) → firsts c (pairs ns h) ≡ all_unlinked (map meaning (nodes ns))
   unfolding pairs
   firsts-pairs [] h = refl
   firsts-pairs (n ∷ ns) h = ap (λ l. unlinked (meaning n.0) ∷ l) (firsts-pairs ns h.1)
 
-  seconds-pairs : (ns : List Child) (h : AllShaped (nodes ns)) → seconds c (pairs ns h) ≡ all_unlinked (map run_of (nodes ns))
+  seconds-pairs : (ns : List Child) (h : AllNodes Sound (nodes ns)) → seconds c (pairs ns h) ≡ all_unlinked (map run_of (nodes ns))
   unfolding pairs
   seconds-pairs [] h = refl
   seconds-pairs (n ∷ ns) h = ap (λ l. unlinked (run_of n.0) ∷ l) (seconds-pairs ns h.1)
 
-  stepped_apart : (z : Node) → Fine z → (k : Kind) (ns : List Child) → AllShaped (nodes ns) → Same c (meaning_by z k (all_unlinked (map meaning (nodes ns)))) (meaning_by (ended z) k (all_unlinked (map run_of (nodes ns))))
-  stepped_apart z fine k ns h = rw (sym (firsts-pairs ns h), sym (seconds-pairs ns h)) (stepped z fine k (pairs ns h))
+  stepped_apart : (z : Node) → Fine z → (k : Kind) → not (is_enum k) ≡ true → (ns : List Child) → AllNodes Sound (nodes ns) → Same c (meaning_by z k (all_unlinked (map meaning (nodes ns)))) (meaning_by (ended z) k (all_unlinked (map run_of (nodes ns))))
+  stepped_apart z fine k here ns h = rw (sym (firsts-pairs ns h), sym (seconds-pairs ns h)) (stepped z fine k here (pairs ns h))
 
   -- with the first child closed
-  stepped_closed : (z : Node) → Fine z → (k : Kind) (a : Child) (ns : List Child) → AllShaped (nodes (a ∷ ns)) → (b : Bool)
+  stepped_closed : (z : Node) → Fine z → (k : Kind) → not (is_enum k) ≡ true → (a : Child) (ns : List Child) → AllNodes Sound (nodes (a ∷ ns)) → (b : Bool)
       → Same c (meaning_by z k (all_unlinked (closing b (meaning a.0) ∷ map meaning (nodes ns)))) (meaning_by (ended z) k (all_unlinked (closing b (run_of a.0) ∷ map run_of (nodes ns))))
-  stepped_closed z fine k a ns h b =
+  stepped_closed z fine k here a ns h b =
       let p : Both c = pair c (closing b (unlinked (meaning a.0))) (closing b (unlinked (run_of a.0))) (closing_same b (unlinked (meaning a.0)) (unlinked (run_of a.0)) (a.1.apart h.0)) in
-      rw (sym (closing_unlinked b (meaning a.0)), sym (closing_unlinked b (run_of a.0)), sym (firsts-pairs ns h.1), sym (seconds-pairs ns h.1)) (stepped z fine k (p ∷ pairs ns h.1))
+      rw (sym (closing_unlinked b (meaning a.0)), sym (closing_unlinked b (run_of a.0)), sym (firsts-pairs ns h.1), sym (seconds-pairs ns h.1)) (stepped z fine k here (p ∷ pairs ns h.1))
 
   same_by : {m m' k k' : Meaning} → m ≡ k → m' ≡ k' → Same c m m' → Same c k k'
   same_by {m} {m'} {k} {k'} e e' same = subst (λ z. Same c z k') e (subst (Same c m) e' same)
@@ -248,10 +352,17 @@ module _ (known : Known) where
       let e = ended_of_layer span k ns in
       ap meaning e ∙ (meaning_of_layer span k (ended_children k (map ends_of ns)) ∙ ap (λ z. meaning_by z k (map meaning (ended_children k (map ends_of ns)))) (sym e))
 
-  fine_layer : (span : Span) (k : Kind) (ns : List Node) → Shaped (node_of span k ns) → gives_link k ≡ false → Fine (node_of span k ns)
-  fine_layer span k ns shaped g = (shaped, ap (λ y. gives_link y.kind) (out-roll-Node (record { span = span; kind = k; children = ns })) ∙ g)
+  fine_layer : (span : Span) (k : Kind) (ns : List Node) → Sound (node_of span k ns) → gives_link k ≡ false → Fine (node_of span k ns)
+  fine_layer span k ns sound g = (sound, ap (λ y. gives_link y.kind) (out-roll-Node (record { span = span; kind = k; children = ns })) ∙ g)
 
-  module _ (span : Span) (k : Kind) (ns : List Child) (shape : Shape) (h : HasShape shape (node_of span k (nodes ns))) (have : HaveShapes (child_shapes k shape (length (nodes ns))) (nodes ns)) where
+  -- children of a sorted node without enums
+  children_sound : (span : Span) (k : Kind) (ns : List Node) (shape : Shape) → HaveShapes (child_shapes k shape (length ns)) ns → Lacks (node_of span k ns) → AllNodes Sound ns
+  children_sound span k ns shape have lacks = all_sound (child_shapes k shape (length ns)) ns have (lacks_parts (record { span = span; kind = k; children = ns }) lacks).1
+
+  kind_lacks : (span : Span) (k : Kind) (ns : List Node) → Lacks (node_of span k ns) → not (is_enum k) ≡ true
+  kind_lacks span k ns lacks = (lacks_parts (record { span = span; kind = k; children = ns }) lacks).0
+
+  module _ (span : Span) (k : Kind) (ns : List Child) (shape : Shape) (h : HasShape shape (node_of span k (nodes ns))) (lacks : Lacks (node_of span k (nodes ns))) (have : HaveShapes (child_shapes k shape (length (nodes ns))) (nodes ns)) where
     abbrev here : Node
     here = node_of span k (nodes ns)
 
@@ -264,7 +375,7 @@ module _ (known : Known) where
         (layer_unlinked (ended here) k shape (map run_of (nodes ns)) passes chain (as_long run_of)
         ∙ (ap (meaning_by (ended here) k) (sym (wholes_mean (nodes ns)) ∙ ap (map meaning) (sym (plain_children k (map ends_of (nodes ns)) closed' chain)))
         ∙ sym (run_of_layer span k (nodes ns))))
-        (stepped_apart here (fine_layer span k (nodes ns) (shape, h) g) k ns (all_shaped (child_shapes k shape (length (nodes ns))) (nodes ns) have))
+        (stepped_apart here (fine_layer span k (nodes ns) ((shape, h), lacks) g) k (kind_lacks span k (nodes ns) lacks) ns (children_sound span k (nodes ns) shape have lacks))
 
     passing_apart : closes k ≡ false → is_chain_kind k ≡ false → passes_on k ≡ true → Same c (unlinked (meaning here)) (unlinked (run_of here))
     passing_apart closed' chain passes =
@@ -272,13 +383,13 @@ module _ (known : Known) where
         (handed_on (ended absent) (ended here) k shape (map run_of (nodes ns)) passes (as_long run_of)
         ∙ ap unlinked (ap (meaning_by (ended here) k) (sym (wholes_mean (nodes ns)) ∙ ap (map meaning) (sym (plain_children k (map ends_of (nodes ns)) closed' chain)))
         ∙ sym (run_of_layer span k (nodes ns))))
-        (stepped_apart absent absent_fine k ns (all_shaped (child_shapes k shape (length (nodes ns))) (nodes ns) have))
+        (stepped_apart absent absent_fine k (kind_lacks span k (nodes ns) lacks) ns (children_sound span k (nodes ns) shape have lacks))
 
-  closed_whole : (span : Span) (k : Kind) (a b d : Child) (shape : Shape) → HasShape shape (node_of span k (a.0 ∷ b.0 ∷ d.0 ∷ [])) → AllShaped (a.0 ∷ b.0 ∷ d.0 ∷ [])
+  closed_whole : (span : Span) (k : Kind) (a b d : Child) (shape : Shape) → HasShape shape (node_of span k (a.0 ∷ b.0 ∷ d.0 ∷ [])) → Lacks (node_of span k (a.0 ∷ b.0 ∷ d.0 ∷ [])) → AllNodes Sound (a.0 ∷ b.0 ∷ d.0 ∷ [])
       → ((x y z : Meaning) → SameLength (child_shapes k shape 3) (x ∷ y ∷ z ∷ []))
       → closes k ≡ true → is_chain_kind k ≡ false → passes_on k ≡ false → gives_link k ≡ false
       → ((es : List Ended) → ended_children k es ≡ closed_first es) → Same c (meaning (node_of span k (a.0 ∷ b.0 ∷ d.0 ∷ []))) (run_of (node_of span k (a.0 ∷ b.0 ∷ d.0 ∷ [])))
-  closed_whole span k a b d shape h all long closed' chain passes g children =
+  closed_whole span k a b d shape h lacks all long closed' chain passes g children =
       let n = node_of span k (a.0 ∷ b.0 ∷ d.0 ∷ []) in
       let f = (ends_of a.0).is_chain in
       let e : map meaning (ended_children k (map ends_of (a.0 ∷ b.0 ∷ d.0 ∷ []))) ≡ closing f (run_of a.0) ∷ run_of b.0 ∷ run_of d.0 ∷ [] =
@@ -287,85 +398,88 @@ module _ (known : Known) where
       ∙ (first_closed n k f (meaning a.0) (meaning b.0) (meaning d.0) closed' g ∙ sym (meaning_of_layer span k (a.0 ∷ b.0 ∷ d.0 ∷ []))))
       (layer_unlinked (ended n) k shape (closing f (run_of a.0) ∷ run_of b.0 ∷ run_of d.0 ∷ []) passes chain (long _ _ _)
       ∙ (ap (meaning_by (ended n) k) (sym e) ∙ sym (run_of_layer span k (a.0 ∷ b.0 ∷ d.0 ∷ []))))
-      (stepped_closed n (fine_layer span k (a.0 ∷ b.0 ∷ d.0 ∷ []) (shape, h) g) k a (b ∷ d ∷ []) all f)
+      (stepped_closed n (fine_layer span k (a.0 ∷ b.0 ∷ d.0 ∷ []) ((shape, h), lacks) g) k (kind_lacks span k (a.0 ∷ b.0 ∷ d.0 ∷ []) lacks) a (b ∷ d ∷ []) all f)
 
-  member_apart : (span : Span) (a b : Child) → AllShaped (a.0 ∷ b.0 ∷ []) → Same c (unlinked (meaning (node_of span kind.MemberExpr (a.0 ∷ b.0 ∷ [])))) (unlinked (run_of (node_of span kind.MemberExpr (a.0 ∷ b.0 ∷ []))))
+  member_apart : (span : Span) (a b : Child) → AllNodes Sound (a.0 ∷ b.0 ∷ []) → Same c (unlinked (meaning (node_of span kind.MemberExpr (a.0 ∷ b.0 ∷ [])))) (unlinked (run_of (node_of span kind.MemberExpr (a.0 ∷ b.0 ∷ []))))
   member_apart span a b all =
       let n = node_of span kind.MemberExpr (a.0 ∷ b.0 ∷ []) in
       let f = (ends_of a.0).is_chain in
       let e : map meaning (ended_children kind.MemberExpr (map ends_of (a.0 ∷ b.0 ∷ []))) ≡ closing f (run_of a.0) ∷ run_of b.0 ∷ [] = ap (λ m. m ∷ run_of b.0 ∷ []) (meaning_of_closed (ends_of a.0)) in
-      same_by (ap unlinked (layer_unlinked absent kind.MemberExpr (one sort.Expr) (closing f (meaning a.0) ∷ meaning b.0 ∷ []) refl refl tt)
-      ∙ (object_closed absent n f (meaning a.0) (meaning b.0) ∙ ap unlinked (sym (meaning_of_layer span kind.MemberExpr (a.0 ∷ b.0 ∷ [])))))
-      (ap unlinked (layer_unlinked (ended absent) kind.MemberExpr (one sort.Expr) (closing f (run_of a.0) ∷ run_of b.0 ∷ []) refl refl tt)
-      ∙ (object_closed (ended absent) (ended n) false (closing f (run_of a.0)) (run_of b.0)
-      ∙ ap unlinked (ap (meaning_by (ended n) kind.MemberExpr) (sym e) ∙ sym (run_of_layer span kind.MemberExpr (a.0 ∷ b.0 ∷ [])))))
-      (unlinked_same _ _ (stepped_closed absent absent_fine kind.MemberExpr a (b ∷ []) all f))
+      let closed' : Same c (meaning_by absent kind.MemberExpr (closing f (meaning a.0) ∷ meaning b.0 ∷ [])) (meaning_by (ended absent) kind.MemberExpr (closing f (run_of a.0) ∷ run_of b.0 ∷ [])) =
+      same_by (layer_unlinked absent kind.MemberExpr (one sort.Expr) (closing f (meaning a.0) ∷ meaning b.0 ∷ []) refl refl tt)
+      (layer_unlinked (ended absent) kind.MemberExpr (one sort.Expr) (closing f (run_of a.0) ∷ run_of b.0 ∷ []) refl refl tt) (stepped_closed absent absent_fine kind.MemberExpr refl a (b ∷ []) all f) in
+      same_by (object_closed n f (meaning a.0) (meaning b.0) ∙ ap unlinked (sym (meaning_of_layer span kind.MemberExpr (a.0 ∷ b.0 ∷ []))))
+      (ap unlinked (ap (meaning_by (ended n) kind.MemberExpr) (sym e) ∙ sym (run_of_layer span kind.MemberExpr (a.0 ∷ b.0 ∷ []))))
+      (unlinked_same _ _ (member_moved absent (ended absent) n (ended n) (closing f (meaning a.0)) (meaning b.0) (closing f (run_of a.0)) (run_of b.0) closed'))
 
-  member_anywhere : (n n' : Node) (a d : Meaning) → meaning_by n kind.MemberExpr (unlinked a ∷ unlinked d ∷ []) ≡ meaning_by n' kind.MemberExpr (a ∷ d ∷ [])
-  member_anywhere n n' a d = refl
+  member_anywhere : (n : Node) (a d : Meaning) → meaning_by n kind.MemberExpr (unlinked a ∷ unlinked d ∷ []) ≡ meaning_by n kind.MemberExpr (a ∷ d ∷ [])
+  member_anywhere n a d = refl
 
-  member_link : (span : Span) (a b : Child) → AllShaped (a.0 ∷ b.0 ∷ []) → Same c (meaning (node_of span kind.MemberExpr (a.0 ∷ b.0 ∷ []))) (meaning (ends_of (node_of span kind.MemberExpr (a.0 ∷ b.0 ∷ []))).link)
+  member_link : (span : Span) (a b : Child) → AllNodes Sound (a.0 ∷ b.0 ∷ []) → Same c (meaning (node_of span kind.MemberExpr (a.0 ∷ b.0 ∷ []))) (meaning (ends_of (node_of span kind.MemberExpr (a.0 ∷ b.0 ∷ []))).link)
   member_link span a b all =
       let n = node_of span kind.MemberExpr (a.0 ∷ b.0 ∷ []) in
       let w = node_of span kind.MemberExpr (ended a.0 ∷ ended b.0 ∷ []) in
-      same_by (member_anywhere absent n (meaning a.0) (meaning b.0) ∙ sym (meaning_of_layer span kind.MemberExpr (a.0 ∷ b.0 ∷ [])))
-      (member_anywhere (ended absent) w (run_of a.0) (run_of b.0) ∙ (sym (meaning_of_layer span kind.MemberExpr (ended a.0 ∷ ended b.0 ∷ [])) ∙ ap meaning (sym (link_of_layer span kind.MemberExpr (a.0 ∷ b.0 ∷ [])))))
-      (stepped_apart absent absent_fine kind.MemberExpr (a ∷ b ∷ []) all)
+      let apart' : Same c (meaning_by absent kind.MemberExpr (meaning a.0 ∷ meaning b.0 ∷ [])) (meaning_by (ended absent) kind.MemberExpr (run_of a.0 ∷ run_of b.0 ∷ [])) =
+      same_by (member_anywhere absent (meaning a.0) (meaning b.0)) (member_anywhere (ended absent) (run_of a.0) (run_of b.0)) (stepped_apart absent absent_fine kind.MemberExpr refl (a ∷ b ∷ []) all) in
+      same_by (sym (meaning_of_layer span kind.MemberExpr (a.0 ∷ b.0 ∷ [])))
+      (sym (meaning_of_layer span kind.MemberExpr (ended a.0 ∷ ended b.0 ∷ [])) ∙ ap meaning (sym (link_of_layer span kind.MemberExpr (a.0 ∷ b.0 ∷ []))))
+      (member_moved absent (ended absent) n w (meaning a.0) (meaning b.0) (run_of a.0) (run_of b.0) apart')
 
-  chain_whole : (span : Span) (optional : Bool) (b : Child) (shape : Shape) → HasShape shape (node_of span (kind.OptChainExpr optional) (b.0 ∷ [])) → HasShape (one sort.OptChainBase) b.0
+  chain_whole : (span : Span) (optional : Bool) (b : Child) (shape : Shape) → HasShape shape (node_of span (kind.OptChainExpr optional) (b.0 ∷ [])) → Lacks (node_of span (kind.OptChainExpr optional) (b.0 ∷ [])) → HasShape (one sort.OptChainBase) b.0
       → Same c (meaning (node_of span (kind.OptChainExpr optional) (b.0 ∷ []))) (run_of (node_of span (kind.OptChainExpr optional) (b.0 ∷ [])))
-  chain_whole span optional b shape h sorted =
+  chain_whole span optional b shape h lacks sorted =
       let k = kind.OptChainExpr optional in
       let x = out-Node b.0 in
       let base : belongs sort.OptChainBase x.kind ≡ true =
       ((node_has_shape x.span x.kind x.children (one sort.OptChainBase)).0 (subst (HasShape (one sort.OptChainBase)) (sym (roll-out-Node b.0)) sorted)).0 in
       same_by (sym (meaning_of_layer span k (b.0 ∷ []))) (sym (run_of_layer span k (b.0 ∷ [])))
-      (stepped (node_of span k (b.0 ∷ [])) (fine_layer span k (b.0 ∷ []) (shape, h) refl) k (pair c (meaning b.0) (meaning (ends_of b.0).link) (b.1.link (one sort.OptChainBase, sorted) base) ∷ []))
+      (stepped (node_of span k (b.0 ∷ [])) (fine_layer span k (b.0 ∷ []) ((shape, h), lacks) refl) k refl
+      (pair c (meaning b.0) (meaning (ends_of b.0).link) (b.1.link ((one sort.OptChainBase, sorted), (lacks_parts (record { span = span; kind = k; children = b.0 ∷ [] }) lacks).1.0) base) ∷ []))
 
   -- each kind
 
-  whole_by : (span : Span) (k : Kind) (ns : List Child) (shape : Shape) → HasShape shape (node_of span k (nodes ns)) → HaveShapes (child_shapes k shape (length (nodes ns))) (nodes ns) → SameLength (child_shapes k shape (length (nodes ns))) (map meaning (nodes ns))
+  whole_by : (span : Span) (k : Kind) (ns : List Child) (shape : Shape) → HasShape shape (node_of span k (nodes ns)) → Lacks (node_of span k (nodes ns)) → HaveShapes (child_shapes k shape (length (nodes ns))) (nodes ns) → SameLength (child_shapes k shape (length (nodes ns))) (map meaning (nodes ns))
       → gives_link k ≡ false → Same c (meaning (node_of span k (nodes ns))) (run_of (node_of span k (nodes ns)))
-  whole_by span (kind.OptChainExpr optional) (b ∷ []) shape h have long g = chain_whole span optional b shape h have.0
-  whole_by span (kind.OptChainExpr optional) _ shape h have long g = absurd long
-  whole_by span kind.CallExpr (a ∷ b ∷ d ∷ []) shape h have long g = closed_whole span kind.CallExpr a b d shape h (all_shaped (child_shapes kind.CallExpr shape 3) (a.0 ∷ b.0 ∷ d.0 ∷ []) have) (λ x y z. tt) refl refl refl refl (λ es. refl)
-  whole_by span kind.CallExpr _ shape h have long g = absurd long
-  whole_by span kind.NewExpr (a ∷ b ∷ d ∷ []) shape h have long g = closed_whole span kind.NewExpr a b d shape h (all_shaped (child_shapes kind.NewExpr shape 3) (a.0 ∷ b.0 ∷ d.0 ∷ []) have) (λ x y z. tt) refl refl refl refl (λ es. refl)
-  whole_by span kind.NewExpr _ shape h have long g = absurd long
-  whole_by span kind.TaggedTpl (a ∷ b ∷ d ∷ []) shape h have long g = closed_whole span kind.TaggedTpl a b d shape h (all_shaped (child_shapes kind.TaggedTpl shape 3) (a.0 ∷ b.0 ∷ d.0 ∷ []) have) (λ x y z. tt) refl refl refl refl (λ es. refl)
-  whole_by span kind.TaggedTpl _ shape h have long g = absurd long
-  whole_by span kind.MemberExpr ns shape h have long g = absurd (cc)
-  whole_by span kind.ParenExpr ns shape h have long g = absurd (cc)
-  whole_by span kind.TsTypeAssertion ns shape h have long g = absurd (cc)
-  whole_by span kind.TsConstAssertion ns shape h have long g = absurd (cc)
-  whole_by span kind.TsNonNullExpr ns shape h have long g = absurd (cc)
-  whole_by span kind.TsAsExpr ns shape h have long g = absurd (cc)
-  whole_by span kind.TsInstantiation ns shape h have long g = absurd (cc)
-  whole_by span kind.TsSatisfiesExpr ns shape h have long g = absurd (cc)
-  whole_by span k ns shape h have long g = plain_whole span k ns shape h have refl refl refl refl
+  whole_by span (kind.OptChainExpr optional) (b ∷ []) shape h lacks have long g = chain_whole span optional b shape h lacks have.0
+  whole_by span (kind.OptChainExpr optional) _ shape h lacks have long g = absurd long
+  whole_by span kind.CallExpr (a ∷ b ∷ d ∷ []) shape h lacks have long g = closed_whole span kind.CallExpr a b d shape h lacks (children_sound span kind.CallExpr (a.0 ∷ b.0 ∷ d.0 ∷ []) shape have lacks) (λ x y z. tt) refl refl refl refl (λ es. refl)
+  whole_by span kind.CallExpr _ shape h lacks have long g = absurd long
+  whole_by span kind.NewExpr (a ∷ b ∷ d ∷ []) shape h lacks have long g = closed_whole span kind.NewExpr a b d shape h lacks (children_sound span kind.NewExpr (a.0 ∷ b.0 ∷ d.0 ∷ []) shape have lacks) (λ x y z. tt) refl refl refl refl (λ es. refl)
+  whole_by span kind.NewExpr _ shape h lacks have long g = absurd long
+  whole_by span kind.TaggedTpl (a ∷ b ∷ d ∷ []) shape h lacks have long g = closed_whole span kind.TaggedTpl a b d shape h lacks (children_sound span kind.TaggedTpl (a.0 ∷ b.0 ∷ d.0 ∷ []) shape have lacks) (λ x y z. tt) refl refl refl refl (λ es. refl)
+  whole_by span kind.TaggedTpl _ shape h lacks have long g = absurd long
+  whole_by span kind.MemberExpr ns shape h lacks have long g = absurd (cc)
+  whole_by span kind.ParenExpr ns shape h lacks have long g = absurd (cc)
+  whole_by span kind.TsTypeAssertion ns shape h lacks have long g = absurd (cc)
+  whole_by span kind.TsConstAssertion ns shape h lacks have long g = absurd (cc)
+  whole_by span kind.TsNonNullExpr ns shape h lacks have long g = absurd (cc)
+  whole_by span kind.TsAsExpr ns shape h lacks have long g = absurd (cc)
+  whole_by span kind.TsInstantiation ns shape h lacks have long g = absurd (cc)
+  whole_by span kind.TsSatisfiesExpr ns shape h lacks have long g = absurd (cc)
+  whole_by span k ns shape h lacks have long g = plain_whole span k ns shape h lacks have refl refl refl refl
 
-  apart_by : (span : Span) (k : Kind) (ns : List Child) (shape : Shape) → HasShape shape (node_of span k (nodes ns)) → HaveShapes (child_shapes k shape (length (nodes ns))) (nodes ns) → SameLength (child_shapes k shape (length (nodes ns))) (map meaning (nodes ns))
+  apart_by : (span : Span) (k : Kind) (ns : List Child) (shape : Shape) → HasShape shape (node_of span k (nodes ns)) → Lacks (node_of span k (nodes ns)) → HaveShapes (child_shapes k shape (length (nodes ns))) (nodes ns) → SameLength (child_shapes k shape (length (nodes ns))) (map meaning (nodes ns))
       → Same c (unlinked (meaning (node_of span k (nodes ns)))) (unlinked (run_of (node_of span k (nodes ns))))
-  apart_by span kind.MemberExpr (a ∷ b ∷ []) shape h have long = member_apart span a b (all_shaped (child_shapes kind.MemberExpr shape 2) (a.0 ∷ b.0 ∷ []) have)
-  apart_by span kind.MemberExpr _ shape h have long = absurd long
-  apart_by span kind.ParenExpr ns shape h have long = passing_apart span kind.ParenExpr ns shape h have refl refl refl
-  apart_by span kind.TsTypeAssertion ns shape h have long = passing_apart span kind.TsTypeAssertion ns shape h have refl refl refl
-  apart_by span kind.TsConstAssertion ns shape h have long = passing_apart span kind.TsConstAssertion ns shape h have refl refl refl
-  apart_by span kind.TsNonNullExpr ns shape h have long = passing_apart span kind.TsNonNullExpr ns shape h have refl refl refl
-  apart_by span kind.TsAsExpr ns shape h have long = passing_apart span kind.TsAsExpr ns shape h have refl refl refl
-  apart_by span kind.TsInstantiation ns shape h have long = passing_apart span kind.TsInstantiation ns shape h have refl refl refl
-  apart_by span kind.TsSatisfiesExpr ns shape h have long = passing_apart span kind.TsSatisfiesExpr ns shape h have refl refl refl
-  apart_by span k ns shape h have long = unlinked_same _ _ (whole_by span k ns shape h have long refl)
+  apart_by span kind.MemberExpr (a ∷ b ∷ []) shape h lacks have long = member_apart span a b (children_sound span kind.MemberExpr (a.0 ∷ b.0 ∷ []) shape have lacks)
+  apart_by span kind.MemberExpr _ shape h lacks have long = absurd long
+  apart_by span kind.ParenExpr ns shape h lacks have long = passing_apart span kind.ParenExpr ns shape h lacks have refl refl refl
+  apart_by span kind.TsTypeAssertion ns shape h lacks have long = passing_apart span kind.TsTypeAssertion ns shape h lacks have refl refl refl
+  apart_by span kind.TsConstAssertion ns shape h lacks have long = passing_apart span kind.TsConstAssertion ns shape h lacks have refl refl refl
+  apart_by span kind.TsNonNullExpr ns shape h lacks have long = passing_apart span kind.TsNonNullExpr ns shape h lacks have refl refl refl
+  apart_by span kind.TsAsExpr ns shape h lacks have long = passing_apart span kind.TsAsExpr ns shape h lacks have refl refl refl
+  apart_by span kind.TsInstantiation ns shape h lacks have long = passing_apart span kind.TsInstantiation ns shape h lacks have refl refl refl
+  apart_by span kind.TsSatisfiesExpr ns shape h lacks have long = passing_apart span kind.TsSatisfiesExpr ns shape h lacks have refl refl refl
+  apart_by span k ns shape h lacks have long = unlinked_same _ _ (whole_by span k ns shape h lacks have long refl)
 
   call_is_link : (span : Span) (ns : List Child) → Same c (meaning (node_of span kind.OptCall (nodes ns))) (run_of (node_of span kind.OptCall (nodes ns))) → Same c (meaning (node_of span kind.OptCall (nodes ns))) (meaning (ends_of (node_of span kind.OptCall (nodes ns))).link)
   call_is_link span ns same = same_by refl (ap meaning (ended_of_layer span kind.OptCall (nodes ns) ∙ sym (link_of_layer span kind.OptCall (nodes ns)))) same
 
-  link_by : (span : Span) (k : Kind) (ns : List Child) (shape : Shape) → HasShape shape (node_of span k (nodes ns)) → HaveShapes (child_shapes k shape (length (nodes ns))) (nodes ns) → SameLength (child_shapes k shape (length (nodes ns))) (map meaning (nodes ns))
+  link_by : (span : Span) (k : Kind) (ns : List Child) (shape : Shape) → HasShape shape (node_of span k (nodes ns)) → Lacks (node_of span k (nodes ns)) → HaveShapes (child_shapes k shape (length (nodes ns))) (nodes ns) → SameLength (child_shapes k shape (length (nodes ns))) (map meaning (nodes ns))
       → belongs sort.OptChainBase k ≡ true → Same c (meaning (node_of span k (nodes ns))) (meaning (ends_of (node_of span k (nodes ns))).link)
-  link_by span kind.MemberExpr (a ∷ b ∷ []) shape h have long base = member_link span a b (all_shaped (child_shapes kind.MemberExpr shape 2) (a.0 ∷ b.0 ∷ []) have)
-  link_by span kind.MemberExpr _ shape h have long base = absurd long
-  link_by span kind.OptCall ns shape h have long base = call_is_link span ns (whole_by span kind.OptCall ns shape h have long refl)
-  link_by span _ ns shape h have long base = absurd (cc)
+  link_by span kind.MemberExpr (a ∷ b ∷ []) shape h lacks have long base = member_link span a b (children_sound span kind.MemberExpr (a.0 ∷ b.0 ∷ []) shape have lacks)
+  link_by span kind.MemberExpr _ shape h lacks have long base = absurd long
+  link_by span kind.OptCall ns shape h lacks have long base = call_is_link span ns (whole_by span kind.OptCall ns shape h lacks have long refl)
+  link_by span _ ns shape h lacks have long base = absurd (cc)
 
   layer_runs : (span : Span) (k : Kind) (ns : List Child) → Runs (node_of span k (nodes ns))
   layer_runs span k ns =
@@ -373,9 +487,9 @@ module _ (known : Known) where
       let have : (shape : Shape) → HasShape shape (node_of span k (nodes ns)) → HaveShapes (child_shapes k shape (length (nodes ns))) (nodes ns) = λ shape h. ((node_has_shape span k (nodes ns) shape).0 h).1 in
       let long : (shape : Shape) → HasShape shape (node_of span k (nodes ns)) → SameLength (child_shapes k shape (length (nodes ns))) (map meaning (nodes ns)) = λ shape h. same_length meaning (child_shapes k shape (length (nodes ns))) (nodes ns) (have shape h) in
       record {
-        apart = λ shaped. apart_by span k ns shaped.0 shaped.1 (have shaped.0 shaped.1) (long shaped.0 shaped.1);
-        whole = λ shaped g. whole_by span k ns shaped.0 shaped.1 (have shaped.0 shaped.1) (long shaped.0 shaped.1) (ap gives_link (sym kind_is) ∙ g);
-        link = λ shaped base. link_by span k ns shaped.0 shaped.1 (have shaped.0 shaped.1) (long shaped.0 shaped.1) (ap (belongs sort.OptChainBase) (sym kind_is) ∙ base);
+        apart = λ sound. apart_by span k ns sound.0.0 sound.0.1 sound.1 (have sound.0.0 sound.0.1) (long sound.0.0 sound.0.1);
+        whole = λ sound g. whole_by span k ns sound.0.0 sound.0.1 sound.1 (have sound.0.0 sound.0.1) (long sound.0.0 sound.0.1) (ap gives_link (sym kind_is) ∙ g);
+        link = λ sound base. link_by span k ns sound.0.0 sound.0.1 sound.1 (have sound.0.0 sound.0.1) (long sound.0.0 sound.0.1) (ap (belongs sort.OptChainBase) (sym kind_is) ∙ base);
       }
 
   all_run : (n : Node) → Runs n
@@ -388,15 +502,18 @@ module_gives_none : (k : Kind) → belongs sort.Module k ≡ true → gives_link
 module_gives_none (kind.Module shebang) h = refl
 module_gives_none _ h = absurd (cc)
 
-ended_runs : (turns : ℕ) (options : Config) (m : Node) (script : Script) → HasSort sort.Module m → observe turns options (ended m) script ≡ observe turns options m script
-ended_runs turns options m script h =
+ended_runs : (turns : ℕ) (options : Config) (m : Node) (script : Script) → HasSort sort.Module m → Lacks m → observe turns options (ended m) script ≡ observe turns options m script
+ended_runs turns options m script h lacks =
+    let known : Known = known_of options m in
+    let none : known.enums ≡ no_enums options.ts_enum_is_mutable = lacking_enums options m lacks in
     let x = out-Node m in
     let of_module : belongs sort.Module x.kind ≡ true = ((node_has_shape x.span x.kind x.children (one sort.Module)).0 (subst (HasShape (one sort.Module)) (sym (roll-out-Node m)) h)).0 in
     ap (λ n. observe n options (ended m) script) (sym (add-zero turns))
-    ∙ observe_unless (c (known_of m)) refl (steps (known_of m)) refl refl turns options m script ((one sort.Module, h), module_gives_none x.kind of_module) refl plain_starts tt tt (none_excused _)
+    ∙ observe_unless (c known options.ts_enum_is_mutable none) refl (steps known options.ts_enum_is_mutable none) refl refl turns options m script (((one sort.Module, h), lacks), module_gives_none x.kind of_module) refl
+    (lacking_enums options (ended m) (ended_lacks m (one sort.Module) h lacks) ∙ sym none) plain_starts tt tt (none_excused _)
 
 pub runs_alike : ParenthesesDoNotMatter → RunsAlike
-runs_alike parentheses_do_not_matter turns options m script h =
-    sym (parentheses_do_not_matter turns options (explicit m) script)
+runs_alike parentheses_do_not_matter turns options m script h lacks =
+    sym (parentheses_do_not_matter turns options (explicit m) script (explicit_lacks m lacks))
     ∙ (ap (λ n. observe turns options n script) (explicit_agrees m (one sort.Module) h)
-    ∙ (parentheses_do_not_matter turns options (ended m) script ∙ ended_runs turns options m script h))
+    ∙ (parentheses_do_not_matter turns options (ended m) script (ended_lacks m (one sort.Module) h lacks) ∙ ended_runs turns options m script h lacks))

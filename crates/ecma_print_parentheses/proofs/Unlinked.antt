@@ -11,7 +11,7 @@ use Rattle.ecma_kind.specs.declared.operators.AssignOp.TheVariants as assignment
 use Rattle.ecma_kind.specs.declared.operators.VarDeclKind.TheVariants.{Var, Let, Const}
 use Rattle.ecma_tree.specs.declared.node.Node.{Node}
 use Rattle.ecma_tree.specs.Sorted.{child_shapes}
-use Rattle.ecma_runs.specs.State.{Entered}
+use Rattle.ecma_runs.specs.State.{Entered, Id}
 use Rattle.ecma_runs.specs.Run.{◌>>=◌, give, given, loop, outside, return, round, spend, when}
 use Rattle.ecma_runs.specs.Environment.{Reference, ToValue, copy_environment, new_environment}
 use Rattle.ecma_runs.specs.Functions.{read, write}
@@ -20,10 +20,10 @@ use Rattle.ecma_runs.specs.Meaning.{Evaluation, Meaning, inside}
 use Rattle.ecma_runs.specs.Evaluation.{meaning_by, no_effect, role_by}
 use Rattle.ecma_runs.specs.Values.{Value, truth_of}
 use Rattle.ecma_runs.specs.Classes.{all_code, all_defined, all_fields, all_statics, field_with}
-use Rattle.ecma_runs.specs.Declarations.{all_names, all_imported, all_lexicals, all_vars, all_parameter_names, all_declared, all_last_declared, all_shorthands, all_cooked, all_plain, all_types, any_constructor, joined_parts, imported_from, all_exports, exported_from}
+use Rattle.ecma_runs.specs.Declarations.{all_names, all_imported, all_lexicals, all_vars, all_parameter_names, all_declared, all_last_declared, all_shorthands, all_cooked, all_plain, all_types, any_constructor, joined_parts, imported_from, all_exports, exported_from, all_member_texts}
 use Rattle.ecma_runs.specs.Expressions.{all_arguments, all_elements, all_texts, sequence, unary, binary_rest, logical_rest, compound_rest, assign, call_by}
 use Rattle.ecma_runs.specs.Patterns.{all_targets, all_matched, all_parameters}
-use Rattle.ecma_runs.specs.Statements.{all_completions, all_varied, all_hoisted, all_last, all_cases, all_switched, for_rounds}
+use Rattle.ecma_runs.specs.Statements.{all_completions, all_members, all_varied, all_hoisted, all_last, all_cases, all_switched, for_rounds}
 
 -- what a node means in all roles but that of a link
 abbrev pub unlinked : Meaning → Meaning
@@ -80,6 +80,10 @@ all_shorthands_unlinked : (ms : List Meaning) → all_shorthands (all_unlinked m
 all_shorthands_unlinked [] = refl
 all_shorthands_unlinked (m ∷ ms) = λ i. m.shorthands ++ all_shorthands_unlinked ms i
 
+all_member_texts_unlinked : (ms : List Meaning) → all_member_texts (all_unlinked ms) ≡ all_member_texts ms
+all_member_texts_unlinked [] = refl
+all_member_texts_unlinked (m ∷ ms) = λ i. m.member_texts ++ all_member_texts_unlinked ms i
+
 all_cooked_unlinked : (ms : List Meaning) → all_cooked (all_unlinked ms) ≡ all_cooked ms
 all_cooked_unlinked [] = refl
 all_cooked_unlinked (m ∷ ms) = λ i. joined_parts m.cooked (all_cooked_unlinked ms i)
@@ -128,6 +132,10 @@ all_completions_unlinked : (ms : List Meaning) → all_completions (all_unlinked
 all_completions_unlinked [] = refl
 all_completions_unlinked (m ∷ ms) = λ i x. m.completion x >>= λ _. all_completions_unlinked ms i x
 
+all_members_unlinked : (leaves_out : Bool) (ids : List Id) (ms : List Meaning) → all_members leaves_out ids (all_unlinked ms) ≡ all_members leaves_out ids ms
+all_members_unlinked leaves_out ids [] = refl
+all_members_unlinked leaves_out ids (m ∷ ms) = λ i x. m.member leaves_out ids x >>= λ _. all_members_unlinked leaves_out ids ms i x
+
 all_varied_unlinked : (ms : List Meaning) → all_varied (all_unlinked ms) ≡ all_varied ms
 all_varied_unlinked [] = refl
 all_varied_unlinked (m ∷ ms) = λ i x. m.varied x >>= λ _. all_varied_unlinked ms i x
@@ -161,6 +169,7 @@ list_unlinked n ms = λ i. record (meaning_by n kind.List ms) {
   targets = all_targets_unlinked ms i;
   parameters = all_parameters_unlinked ms i;
   completion = all_completions_unlinked ms i;
+  member = λ leaves_out ids. all_members_unlinked leaves_out ids ms i;
   varied = all_varied_unlinked ms i;
   hoisted = all_hoisted_unlinked ms i;
   last = all_last_unlinked ms i;
@@ -177,6 +186,7 @@ list_unlinked n ms = λ i. record (meaning_by n kind.List ms) {
   last_declared = all_last_declared_unlinked ms i;
   shorthands = all_shorthands_unlinked ms i;
   imported = all_imported_unlinked ms i;
+  member_texts = all_member_texts_unlinked ms i;
   exports = all_exports_unlinked ms i;
   cooked = all_cooked_unlinked ms i;
   is_plain = all_plain_unlinked ms i;
@@ -189,6 +199,7 @@ unfoldable pub with_value : Meaning → Evaluation Value → Meaning
 with_value m value = record m {
   value = value;
   reference = λ x. value x >>= λ v. give (ToValue v);
+  written = λ x. value x >>= λ v. give (ToValue v);
   assigned = λ get x. (value x >>= λ v. give (ToValue v)) >>= λ r. get >>= λ v. write x r v >>= λ _. give v;
   initial = value;
   arguments = λ x. value x >>= λ v. give (v ∷ []);
@@ -226,7 +237,7 @@ compound_unlinked None None r v m = refl
 
 assign_unlinked : (op : AssignOp) (a b : Meaning) → assign op (unlinked a) (unlinked b) ≡ assign op a b
 assign_unlinked assignment.Assign a b = refl
-assign_unlinked op a b = λ i x. a.reference x >>= λ r. read x r >>= λ v. compound_unlinked (logical_operator_of op) (operator_of op) r v b i x
+assign_unlinked op a b = λ i x. a.written x >>= λ r. read x r >>= λ v. compound_unlinked (logical_operator_of op) (operator_of op) r v b i x
 
 call_unlinked : (is_super : Bool) (a b : Meaning) → call_by is_super (unlinked a) (unlinked b) ≡ call_by is_super a b
 call_unlinked true a b = refl

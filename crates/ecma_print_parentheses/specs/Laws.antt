@@ -7,6 +7,7 @@ use Rattle.ecma_tree.specs.Sorted.{HasShape, HasSort}
 use Rattle.ecma_print.specs.Layout.{layout}
 use Rattle.ecma_config.specs.declared.config.Config.{Config}
 use Rattle.ecma_runs.specs.declared.script.Script.{Script}
+use Rattle.ecma_runs.specs.Enums.{lacks_enums}
 use Rattle.ecma_runs.specs.Observation.{observe}
 use Rattle.ecma_print.specs.Explicit.{explicit, without_parens}
 use Rattle.ecma_print_parentheses.specs.Lacking.{lacks_none}
@@ -36,6 +37,7 @@ SortsAreKept = (m : Node) (shape : Shape) → HasShape shape m → HasShape shap
 abbrev pub LayoutStays : Type 0
 LayoutStays = (m : Node) (shape : Shape) → HasShape shape m → layout (explicit m) ≡ layout m
 
--- a module runs alike. Not so every tree: where parentheses stand round a link of an optional chain, which no shape allows, a chain before that link ends there
+-- a module without enums runs alike. Not so every tree: where parentheses stand round a link of an optional chain, which no shape allows, a chain before that link ends there
 abbrev pub RunsAlike : Type 0
-RunsAlike = (turns : ℕ) (options : Config) (m : Node) (script : Script) → HasSort sort.Module m → observe turns options (explicit m) script ≡ observe turns options m script
+RunsAlike =
+    (turns : ℕ) (options : Config) (m : Node) (script : Script) → HasSort sort.Module m → lacks_enums m ≡ true → observe turns options (explicit m) script ≡ observe turns options m script

@@ -35,7 +35,7 @@ pub fn layout_stays()
     ensures { LayoutStays }
 {}
 
-/// A module with explicit parentheses does what it does without them: most end no optional chain, and those that do stand where the chain ends.
+/// A module without enums does with explicit parentheses what it does without them: most end no optional chain, and those that do stand where the chain ends.
 pub fn it_runs_alike()
     ensures { RunsAlike }
 {

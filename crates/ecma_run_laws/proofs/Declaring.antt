@@ -1,5 +1,5 @@
 -- Declarations that do nothing may come to the head of a module.
-use Rattle.std.proofs.Common.{◌≡◌, ◌++◌, refl, sym, ap, ap₂, ◌∙◌, subst, ℕ, List, [], ◌∷◌, map, filter, Option, None, Bool, true, not}
+use Rattle.std.proofs.Common.{◌≡◌, ◌++◌, refl, sym, ap, ap₂, ◌∙◌, subst, ℕ, List, [], ◌∷◌, map, filter, Option, None, Bool, true, false, not}
 use Rattle.std.specs.List.{list_all}
 use Rattle.ecma_kind.specs.declared.kind.Kind.TheVariants as kind
 use Rattle.ecma_kind.specs.declared.span.Span.{Span}
@@ -9,7 +9,9 @@ use Rattle.ecma_tree.specs.Nodes.{node_of}
 use Rattle.ecma_runs.specs.State.{Id}
 use Rattle.ecma_runs.specs.Declarations.{all_exports}
 use Rattle.ecma_runs.specs.Evaluation.{meaning}
-use Rattle.ecma_runs.specs.Observation.{known_of, exports_in, observe}
+use Rattle.ecma_runs.specs.Enums.{no_enums}
+use Rattle.ecma_runs.specs.Meaning.{Known}
+use Rattle.ecma_runs.specs.Observation.{exports_in, observe}
 use Rattle.ecma_runs.proofs.Exports.{LocalsPass}
 use Rattle.ecma_runs.proofs.Layer.{meaning-roll}
 use Rattle.ecma_runs.proofs.Kept.{AllNodes}
@@ -53,13 +55,16 @@ module _ (gone : Id → Bool) where
     pub without_added : without gone (module_of span shebang place (added ++ items)) ≡ module_of span shebang place items
     without_added = image gone (Layer span (kind.Module shebang) (node_of place kind.List (added ++ items) ∷ [])) ∙ ap (λ l. node_of span (kind.Module shebang) (l ∷ [])) list_is
 
+abbrev nothing_known : Known
+nothing_known = record { declared = []; enums = no_enums false }
+
 -- what is added exports nothing
 module _ (gone : Id → Bool) where
   added_export : (added items : List Node) → list_all (statement_goes gone) added ≡ true → all_exports (map meaning (added ++ items)) None ≡ all_exports (map meaning items) None
   added_export [] items go = refl
   added_export (n ∷ added) items go =
       let t = both_true (statement_goes gone n) (list_all (statement_goes gone) added) go in
-      ap₂ (λ a b. a ++ b) (statement_exports gone (known_of n) n t.0 None) (added_export added items t.1)
+      ap₂ (λ a b. a ++ b) (statement_exports gone nothing_known (false, refl) n t.0 None) (added_export added items t.1)
 
 module_exports : (span place : Span) (shebang : Option (List ℕ)) (items : List Node) → exports_in (module_of span shebang place items) ≡ all_exports (map meaning items) None
 module_exports span place shebang items =
@@ -67,9 +72,9 @@ module_exports span place shebang items =
     ∙ ap (λ m. m.exports None) (meaning-roll (Layer place kind.List items))
 
 pub new_names_may_be_declared : NewNamesMayBeDeclared
-new_names_may_be_declared gone turns options script span place shebang added items default go pass =
+new_names_may_be_declared gone turns options script span place shebang added items lacks default go pass =
     let e = without_added gone span place shebang added items go pass in
     let same = module_exports span place shebang (added ++ items) ∙ added_export gone added items go ∙ sym (module_exports span place shebang items) in
     let exported = (declares (stands gone) (module_of span shebang place items) pass).exports None default in
-    sym (unused.unused_kept gone turns options (module_of span shebang place (added ++ items)) script default (subst (LocalsPass (stands gone)) (sym same) exported) (subst (Passes (stands gone)) (sym e) pass))
+    sym (unused.unused_kept gone turns options (module_of span shebang place (added ++ items)) script lacks default (subst (LocalsPass (stands gone)) (sym same) exported) (subst (Passes (stands gone)) (sym e) pass))
     ∙ ap (λ m. observe turns options m script) e

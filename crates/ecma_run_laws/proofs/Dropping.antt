@@ -1,23 +1,30 @@
 -- Lists of which items go do alike, where what goes does nothing in the roles in which the list is used.
-use Rattle.std.proofs.Common.{◌≡◌, refl, sym, ap, ◌∙◌, subst, List, [], ◌∷◌, map, filter, Bool, true, false, not, cond}
+use Rattle.std.proofs.Common.{◌≡◌, refl, sym, ap, ◌∙◌, subst, List, [], ◌∷◌, map, filter, None, Bool, true, false, not, cond}
 use Rattle.ecma_kind.specs.declared.kind.Kind.{Kind}
 use Rattle.ecma_kind.specs.declared.kind.Kind.TheVariants as kind
 use Rattle.ecma_tree.specs.declared.node.Node.{Node, Node-F, out-Node}
+use Rattle.ecma_tree.specs.declared.node.Node.TheViews.{roll-out-Node}
 use Rattle.ecma_tree.specs.Nodes.{node_of}
 use Rattle.ecma_runs.specs.State.{Id}
+use Rattle.ecma_runs.specs.Enums.{no_enums}
 use Rattle.ecma_runs.specs.Meaning.{Known, Meaning}
 use Rattle.ecma_runs.specs.Evaluation.{meaning_by, meaning}
 use Rattle.ecma_runs.proofs.Layer.{meaning-roll, meaning_out}
+use Rattle.ecma_runs.proofs.EnumTrees.{Lacks, lacks_parts}
 use Rattle.ecma_runs.proofs.Names.{Naming}
 use Rattle.ecma_runs.proofs.Alike.{Change}
 use Rattle.ecma_runs.proofs.Meanings.{Same, pair}
 use Rattle.ecma_runs.proofs.Lists.{Silent, Item, Stays, Goes, before, behind}
 use Rattle.ecma_runs.proofs.Steps.{plain_list}
 use Rattle.ecma_runs.proofs.Kept.{AllNodes, Kept}
-use Rattle.ecma_runs.proofs.Layers.{the_same, images_named}
+use Rattle.ecma_runs.proofs.Layers.{the_same, without_enums, images_named}
 use Rattle.ecma_runs.proofs.Standing.{Passes, passes_parts}
 use Rattle.ecma_run_laws.specs.Lessened.{Lessened, fewer, left_of, lessened_step, lessened, without}
 use Rattle.ecma_run_laws.proofs.Lessening.{IsOther, list_left, other_left}
+
+-- nothing is known of enums
+abbrev pub HasNone : Known → Type 0
+HasNone known = (may_change : Bool) × (known.enums ≡ no_enums may_change)
 
 module _ (gone : Id → Bool) where
   abbrev pub stands : Id → Bool
@@ -26,15 +33,22 @@ module _ (gone : Id → Bool) where
   abbrev pub names_left : Naming
   names_left = record { to = λ id. id; kept = stands; plain = true; injective = λ is a b ka kb e. e }
 
-  -- functions keep what is left of their nodes, in which no name stands that goes
-  abbrev pub dropping : Known → Change
-  dropping known = images_named (λ n. Passes stands (without gone n)) (without gone) names_left known (λ id kept free. refl) the_same
+  -- a node without enums, and no name stands in what is left of it that goes
+  abbrev pub Fine : Node → Type 0
+  Fine n = Passes stands (without gone n) × Lacks n
 
-  module _ (known : Known) (goes : Node → Bool) (left : Lessened → Node)
+  -- functions keep what is left of their nodes
+  abbrev pub dropping : (known : Known) → HasNone known → Change
+  dropping known none = images_named Fine (without gone) names_left known (λ id kept free. refl) the_same (without_enums Fine (without gone) names_left true None known.enums none.0 none.1)
+
+  pub children_lack : (n : Node) → Lacks n → AllNodes Lacks (out-Node n).children
+  children_lack n h = (lacks_parts (out-Node n) (subst Lacks (sym (roll-out-Node n)) h)).1
+
+  module _ (known : Known) (none : HasNone known) (goes : Node → Bool) (left : Lessened → Node)
       (fewer_left : (parts : Node-F Lessened) → left (lessened_step gone parts) ≡ fewer goes parts.span parts.kind parts.children (left_of parts.kind parts.children))
-      (silence : Meaning → Meaning) (silent : (n : Node) → goes n ≡ true → Silent (dropping known) (silence (meaning n))) where
+      (silence : Meaning → Meaning) (silent : (n : Node) → goes n ≡ true → Silent (dropping known none) (silence (meaning n))) where
     abbrev change : Change
-    change = dropping known
+    change = dropping known none
 
     -- the items of a list, of which those that go are silenced
     abbrev pub seen_item : Node → Meaning
@@ -49,7 +63,7 @@ module _ (gone : Id → Bool) where
 
     -- those that stay have names that stay
     abbrev StaysFine : Node → Type 0
-    StaysFine n = goes n ≡ false → Passes stands (without gone n)
+    StaysFine n = goes n ≡ false → Fine n
 
     item_by : (n : Node) → Kept change n → StaysFine n → (b : Bool) → goes n ≡ b → Item change
     item_by n kept fine true e = Goes (silence (meaning n)) (silent n e)
@@ -80,38 +94,38 @@ module _ (gone : Id → Bool) where
     behind_items [] kept fine = refl
     behind_items (n ∷ ns) kept fine = behind_by n kept.0 fine.0 (goes n) refl (items ns kept.1 fine.1) _ (behind_items ns kept.1 fine.1)
 
-    fine_one : (n : Node) (others : List Node) (b : Bool) → goes n ≡ b → AllNodes (Passes stands) (map (without gone) (cond (not b) (n ∷ others) others)) → StaysFine n × AllNodes (Passes stands) (map (without gone) others)
-    fine_one n others true e all = (λ stays. absurd (both stays), all)
+    fine_one : (n : Node) (others : List Node) (b : Bool) → goes n ≡ b → Lacks n → AllNodes (Passes stands) (map (without gone) (cond (not b) (n ∷ others) others)) → StaysFine n × AllNodes (Passes stands) (map (without gone) others)
+    fine_one n others true e lacks all = (λ stays. absurd (both stays), all)
       where
         both : goes n ≡ false → ⊥
         both stays = cc
-    fine_one n others false e all = (λ stays. all.0, all.1)
+    fine_one n others false e lacks all = (λ stays. (all.0, lacks), all.1)
 
-    fine_items : (ns : List Node) → AllNodes (Passes stands) (map (without gone) (filter (λ n. not (goes n)) ns)) → AllNodes StaysFine ns
-    fine_items [] all = tt
-    fine_items (n ∷ ns) all = let t = fine_one n (filter (λ n. not (goes n)) ns) (goes n) refl all in (t.0, fine_items ns t.1)
+    fine_items : (ns : List Node) → AllNodes Lacks ns → AllNodes (Passes stands) (map (without gone) (filter (λ n. not (goes n)) ns)) → AllNodes StaysFine ns
+    fine_items [] lacks all = tt
+    fine_items (n ∷ ns) lacks all = let t = fine_one n (filter (λ n. not (goes n)) ns) (goes n) refl lacks.0 all in (t.0, fine_items ns lacks.1 t.1)
 
-    list_alike : (n : Node) → (out-Node n).kind ≡ kind.List → AllNodes (Kept change) (out-Node n).children → Passes stands (left (lessened gone n))
+    list_alike : (n : Node) → (out-Node n).kind ≡ kind.List → AllNodes (Kept change) (out-Node n).children → Lacks n → Passes stands (left (lessened gone n))
         → Same change (meaning_by n kind.List (map seen_item (out-Node n).children)) (meaning (left (lessened gone n)))
-    list_alike n is kept fine =
+    list_alike n is kept lacks fine =
         let ns : List Node = (out-Node n).children in
         let stay : List Node = map (without gone) (filter (λ n. not (goes n)) ns) in
         let n' : Node = node_of (out-Node n).span kind.List stay in
         let e : left (lessened gone n) ≡ n' = list_left gone goes left fewer_left n is in
-        let all = fine_items ns (passes_parts stands (record { span = (out-Node n).span; kind = kind.List; children = stay }) (subst (Passes stands) e fine)).1 in
+        let all = fine_items ns (children_lack n lacks) (passes_parts stands (record { span = (out-Node n).span; kind = kind.List; children = stay }) (subst (Passes stands) e fine)).1 in
         let m : meaning (left (lessened gone n)) ≡ meaning_by n' kind.List (behind change (items ns kept all)) =
         ap meaning e ∙ meaning-roll (record { span = (out-Node n).span; kind = kind.List; children = stay }) ∙ ap (meaning_by n' kind.List) (sym (behind_items ns kept all)) in
         subst (λ ms. Same change (meaning_by n kind.List ms) (meaning (left (lessened gone n)))) (before_items ns kept all)
         (subst (Same change (meaning_by n kind.List (before change (items ns kept all)))) (sym m) (plain_list change refl n n' (items ns kept all)))
 
-    pub seen_alike : (n : Node) → Kept change n → AllNodes (Kept change) (out-Node n).children → Passes stands (left (lessened gone n)) → Same change (seen n) (meaning (left (lessened gone n)))
-    seen_alike n kept all fine = go (out-Node n).kind refl
+    pub seen_alike : (n : Node) → Kept change n → AllNodes (Kept change) (out-Node n).children → Lacks n → Passes stands (left (lessened gone n)) → Same change (seen n) (meaning (left (lessened gone n)))
+    seen_alike n kept all lacks fine = go (out-Node n).kind refl
       where
         other : IsOther (out-Node n).kind → Same change (meaning n) (meaning (left (lessened gone n)))
-        other is = let e = other_left gone goes left fewer_left n is in subst (λ l. Same change (meaning n) (meaning l)) (sym e) (kept (subst (Passes stands) e fine))
+        other is = let e = other_left gone goes left fewer_left n is in subst (λ l. Same change (meaning n) (meaning l)) (sym e) (kept (subst (Passes stands) e fine, lacks))
 
         go : (k : Kind) → (out-Node n).kind ≡ k → Same change (seen_by k n) (meaning (left (lessened gone n)))
-        go kind.List is = list_alike n is all fine
+        go kind.List is = list_alike n is all lacks fine
         go k is = other (subst IsOther (sym is) tt)
 
     -- in a role in which silence leaves what there is, the list means what it means

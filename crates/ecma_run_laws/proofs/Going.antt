@@ -23,7 +23,7 @@ use Rattle.ecma_runs.proofs.Meanings.{at, World, first, empties, imports, undefi
 use Rattle.ecma_runs.proofs.Lists.{Silent}
 use Rattle.ecma_run_laws.proofs.Both.{both_true}
 use Rattle.ecma_run_laws.specs.Lessened.{are_gone, is_name_by, is_name, is_idle_declarator_by, declarator_goes, is_specifier_by, specifier_goes, all_go_by, all_go, is_idle_by, statement_goes}
-use Rattle.ecma_run_laws.proofs.Dropping.{names_left, dropping}
+use Rattle.ecma_run_laws.proofs.Dropping.{HasNone, names_left, dropping}
 
 -- what does nothing, but for what is given
 abbrev quiet : List Id → List Id → List Binding → List Binding → (List ℕ → List Binding) → (Option (List ℕ) → List Exported) → Evaluation (Unit {0}) → Evaluation (Unit {0}) → Evaluation (Unit {0}) → Meaning
@@ -46,9 +46,9 @@ silent_declarator m = quiet m.names m.declared [] [] (λ source. []) (λ source.
 abbrev pub silent_specifier : Meaning → Meaning
 silent_specifier m = quiet [] m.declared [] [] m.imported (λ source. []) nothing nothing nothing
 
-module _ (gone : Id → Bool) (known : Known) where
+module _ (gone : Id → Bool) (known : Known) (none : HasNone known) where
   abbrev c : Change
-  c = dropping gone known
+  c = dropping gone known none
 
   abbrev NoneLeft : List Id → Type 0
   NoneLeft ids = changed_ids (names_left gone) ids ≡ []
@@ -71,6 +71,7 @@ module _ (gone : Id → Bool) (known : Known) where
     targets = λ v w. give_alike (at c _) tt;
     parameters = λ arguments w. give_alike (at c _) arguments;
     completion = λ w. does _ w;
+    member = λ has leaves_out ids w. give_alike (at c _) tt;
     varied = λ w. varies _ w;
     hoisted = λ w. hoists _ w;
     last = λ w. give_alike (at c _) tt;
@@ -85,6 +86,7 @@ module _ (gone : Id → Bool) (known : Known) where
     declared = d;
     last_declared = refl;
     imported = i;
+    member_texts = λ has. refl;
     exports = λ source. ap (changed_exports (names_left gone)) (e source);
     cooked = refl;
     is_plain = refl;

@@ -10,6 +10,7 @@ use Rattle.ecma_tree.specs.declared.node.Node.{Node, Node-F, out-Node}
 use Rattle.ecma_tree.specs.declared.node.Node.TheViews.{out-roll-Node}
 use Rattle.ecma_tree.specs.Nodes.{absent, node_of}
 use Rattle.ecma_config.specs.declared.config.Config.{Config}
+use Rattle.ecma_runs.specs.Enums.{lacks_enums}
 use Rattle.ecma_runs.specs.declared.script.Script.{Script}
 use Rattle.ecma_runs.specs.State.{Id, same_id, default_name}
 use Rattle.ecma_runs.specs.Meaning.{Meaning}
@@ -52,7 +53,7 @@ plainer_alike n (kind.UnaryExpr operator.Bang) (e ∷ []) is = true_alike n e (o
 plainer_alike n k cs is = itself (meaning n)
 
 -- wherever `!0` is only read, in the bodies of functions too
-pub true_for_not_zero : (turns : ℕ) (options : Config) (m : Node) (script : Script) → observe turns options (exchanged plainer m) script ≡ observe turns options m script
+pub true_for_not_zero : (turns : ℕ) (options : Config) (m : Node) (script : Script) → lacks_enums m ≡ true → lacks_enums (exchanged plainer m) ≡ true → observe turns options (exchanged plainer m) script ≡ observe turns options m script
 true_for_not_zero = equal_expressions_may_stand_for_each_other plainer (λ n. plainer_alike n (out-Node n).kind (out-Node n).children (meaning_out n))
 
 -- `let key;` at the head of a module
@@ -112,6 +113,6 @@ module _ (place : Span) (key : Id) where
   let_goes =
       rw (out-roll-Node (layer (kind.VarDecl Let false) (list_of_one ∷ [])), out-roll-Node (layer kind.List (declarator_node ∷ [])), declarator_is_gone, declares_one (meaning let_node).declared let_declares) refl
 
-  pub let_may_come : (turns : ℕ) (options : Config) (script : Script) (span : Span) (shebang : Option (List ℕ)) (items : List Node) → not (gone default_name) ≡ true → ids_pass (λ id. not (gone id)) (module_of span shebang place items) ≡ true
+  pub let_may_come : (turns : ℕ) (options : Config) (script : Script) (span : Span) (shebang : Option (List ℕ)) (items : List Node) → lacks_enums (module_of span shebang place (let_node ∷ items)) ≡ true → not (gone default_name) ≡ true → ids_pass (λ id. not (gone id)) (module_of span shebang place items) ≡ true
       → observe turns options (module_of span shebang place (let_node ∷ items)) script ≡ observe turns options (module_of span shebang place items) script
-  let_may_come turns options script span shebang items other pass = new_names_may_be_declared gone turns options script span place shebang (let_node ∷ []) items other (rw let_goes refl) pass
+  let_may_come turns options script span shebang items lacks other pass = new_names_may_be_declared gone turns options script span place shebang (let_node ∷ []) items lacks other (rw let_goes refl) pass

@@ -3,6 +3,7 @@ pub mod Seats
 pub mod References
 pub mod Exchanging
 pub mod Lessening
+mod Lacking
 pub mod Dropping
 pub mod Going
 pub mod Standing

@@ -1,5 +1,5 @@
 -- A block that is written as a function that is called where it stands: the one run passes the function over that the other makes and calls.
-use Rattle.std.proofs.Common.{◌≡◌, ◌≢◌, ℕ, zero, suc, ◌+◌, ◌≤◌, inl, inr, refl, sym, ap, ap₂, ◌∙◌, subst, subst₂, List, [], ◌∷◌, ◌++◌, map, Option, Some, None, Bool, true, false, cond, option_map, slice_get, length, append-nil, add-zero, suc-add, arith}
+use Rattle.std.proofs.Common.{◌≡◌, ◌≢◌, ℕ, zero, suc, ◌+◌, ◌≤◌, inl, inr, refl, sym, ap, ap₂, ◌∙◌, subst, subst₂, List, [], ◌∷◌, ◌++◌, map, Option, Some, None, Bool, true, false, not, cond, option_map, slice_get, length, append-nil, add-zero, suc-add, arith}
 use Rattle.std.proofs.lemmas.Option.{slice_get-map}
 use Rattle.ecma_kind.specs.declared.kind.Kind.{Kind}
 use Rattle.ecma_kind.specs.declared.kind.Kind.TheVariants as kind
@@ -20,9 +20,12 @@ use Rattle.ecma_runs.specs.Functions.{function_object, closure_of, prototype_ent
 use Rattle.ecma_runs.specs.Classes.{body_of}
 use Rattle.ecma_runs.specs.Evaluation.{in_record, as_it_is, called_with, called_block, role_by, meaning_by, meaning, entered, invoke_closure, fields_with, functions_with, apply_at, apply, invoke}
 use Rattle.ecma_runs.specs.Observation.{observe, known_of}
+use Rattle.ecma_runs.specs.Enums.{no_enums, is_enum}
+use Rattle.ecma_runs.proofs.EnumTrees.{Lacks, lacks_parts, lacks_layer, rewritten_lacks, lacking_enums}
+use Rattle.ecma_run_laws.proofs.Exchanging.{no_enum}
 use Rattle.ecma_runs.proofs.Layer.{meaning-roll}
 use Rattle.ecma_runs.proofs.Names.{changed_ids, changed_entered, changed_known}
-use Rattle.ecma_runs.proofs.Alike.{Change, changed, changed_object, Sound, Good, Follows, Alike, bind_alike, give_alike, return_alike, outside_alike}
+use Rattle.ecma_runs.proofs.Alike.{Change, EnumsStand, changed, changed_object, Sound, Good, Follows, Alike, bind_alike, give_alike, return_alike, outside_alike}
 use Rattle.ecma_runs.proofs.Environments.{enter_alike}
 use Rattle.ecma_runs.proofs.Objects.{new_object_alike}
 use Rattle.ecma_runs.proofs.Meanings.{at, within, later, FunctionsAlike, World, first, second, Same, pair}
@@ -30,8 +33,8 @@ use Rattle.ecma_runs.proofs.Functions.{new_prototype_alike}
 use Rattle.ecma_runs.proofs.Premises.{renamed_kind, KeptLayer}
 use Rattle.ecma_runs.proofs.Classes.{body_alike}
 use Rattle.ecma_runs.proofs.Blocks.{in_record_alike}
-use Rattle.ecma_runs.proofs.Kept.{Kept, StepsAlike, layer_same, IsNotExcused, observe_while}
-use Rattle.ecma_runs.proofs.Layers.{plain_starts, same_names, always, the_same, all_units, same_kind, kept_layer}
+use Rattle.ecma_runs.proofs.Kept.{AllNodes, Kept, StepsAlike, layer_same, IsNotExcused, observe_while}
+use Rattle.ecma_runs.proofs.Layers.{plain_starts, without_enums, same_names, always, the_same, same_kind, kept_layer}
 use Rattle.ecma_runs.proofs.Depth.{invoke-apply}
 use Rattle.ecma_runs.proofs.Turns.{in_turns, calls_in}
 use Rattle.ecma_run_laws.specs.Lowered.{function_of, expression_of, call_of, called_function, lowered_by, lowered_node, lowered}
@@ -116,6 +119,31 @@ first_of (n ∷ ns) = n
 abbrev function_for : Node → Node
 function_for n = function_of (first_of (map lowered (out-Node n).children))
 
+-- a tree without enums has none where its blocks are written so
+
+layer_lacks : (k : Kind) (cs : List Node) → not (is_enum k) ≡ true → AllNodes Lacks cs → Lacks (node_of dummy_span k cs)
+layer_lacks k cs here below = lacks_layer (record { span = dummy_span; kind = k; children = cs }) here below
+
+called_lacks : (items : Node) → Lacks items → Lacks (called_function items)
+called_lacks items lacks =
+    let nothing : Lacks absent = layer_lacks kind.Absent [] refl tt in
+    let none : Lacks (list_node []) = layer_lacks kind.List [] refl tt in
+    let body : Lacks (node_of dummy_span kind.BlockStmt (items ∷ [])) = layer_lacks kind.BlockStmt (items ∷ []) refl (lacks, tt) in
+    let function : Lacks (function_of items) = layer_lacks (kind.Function false false) _ refl (none, (body, (nothing, (nothing, tt)))) in
+    let expression : Lacks (expression_of items) = layer_lacks kind.FnExpr _ refl (nothing, (function, tt)) in
+    layer_lacks kind.ExprStmt _ refl (layer_lacks kind.CallExpr _ refl (expression, (none, (nothing, tt))), tt)
+
+either_lacks : (b : Bool) (n n' : Node) → Lacks n → Lacks n' → Lacks (cond b n n')
+either_lacks true n n' h h' = h
+either_lacks false n n' h h' = h'
+
+lowered_by_lacks : (x : Node-F Node) (k : Kind) (cs : List Node) → Lacks (roll-Node x) → AllNodes Lacks cs → Lacks (lowered_by k cs x)
+lowered_by_lacks x kind.TsModuleBlock (items ∷ []) whole below = either_lacks (meaning items).is_type (roll-Node x) (called_function items) whole (called_lacks items below.0)
+lowered_by_lacks x k cs whole below = whole
+
+lowered_lacks : (n : Node) → Lacks n → Lacks (lowered n)
+lowered_lacks = rewritten_lacks lowered_node (λ x here below. lowered_by_lacks x x.kind x.children (lacks_layer x here below) below)
+
 abbrev outside_only : Stop → Bool
 outside_only TurnsSpent = false
 outside_only AnswersSpent = false
@@ -126,12 +154,12 @@ only_outside_excused end h TurnsSpent excuse = absurd (cc)
 only_outside_excused end h AnswersSpent excuse = absurd (cc)
 only_outside_excused end h Outside excuse = h
 
-module _ (known : Known) where
+module _ (known : Known) (may_change : Bool) (none : known.enums ≡ no_enums may_change) where
   -- functions keep the images of their nodes, and what is passed over is a function
   abbrev lowering : Change
   lowering = record {
     node = lowered;
-    fine = λ n. Unit {0};
+    fine = Lacks;
     around = [];
     passed = Some function_for;
     names = same_names;
@@ -147,7 +175,11 @@ module _ (known : Known) where
     uses = true;
     said = λ events. Unit {0};
     adds = λ u events event h. tt;
+    enums = without_enums Lacks lowered same_names true (Some function_for) known.enums may_change none;
   }
+
+  abbrev plainly : EnumsStand known.enums same_names true None lowered Lacks
+  plainly = without_enums Lacks lowered same_names true None known.enums may_change none
 
   module _ (k : ℕ) where
     abbrev c : Change
@@ -157,7 +189,7 @@ module _ (known : Known) where
     also = changed_known same_names known
 
     -- a block, its items, and their image
-    module _ (span : Span) (items : Node) (same : Same c (meaning items) (meaning (lowered items))) where
+    module _ (span : Span) (items : Node) (fine : Lacks (roll-Node (Layer span kind.TsModuleBlock (items ∷ [])))) (same : Same c (meaning items) (meaning (lowered items))) where
       abbrev n : Node
       n = roll-Node (Layer span kind.TsModuleBlock (items ∷ []))
 
@@ -178,7 +210,7 @@ module _ (known : Known) where
       code' = body_of (node_of dummy_span kind.BlockStmt (lowered items ∷ [])) kind.BlockStmt (m' ∷ []) []
 
       code_alike : (a : List Entered) (w : World (at c a)) → Alike (at c a) (code (first (at c a) w)) (code' (second (at c a) w))
-      code_alike a w = body_alike c w n tt kind.BlockStmt (pair c m m' same ∷ []) tt tt [] [] tt (record { free = tt })
+      code_alike a w = body_alike c w n fine kind.BlockStmt (pair c m m' same ∷ []) tt tt [] [] tt (record { free = tt })
 
       module _ (a : List Entered) (w : World (at c a)) (outer : Entered) (prototype : ℕ) where
         abbrev passed_object : Object
@@ -293,6 +325,7 @@ module _ (known : Known) where
         parts_same = record {
           value = λ w s. outside_alike (at c _);
           reference = λ w s. bind_alike (at c _) {A = Value} (outside_alike (at c _)) (λ v. outside_alike (at c _));
+          written = λ w s. bind_alike (at c _) {A = Value} (outside_alike (at c _)) (λ v. outside_alike (at c _));
           assigned = λ get get' h w s. outside_alike (at c _);
           initial = λ w s. outside_alike (at c _);
           arguments = λ w s. bind_alike (at c _) (outside_alike (at c _)) (λ v. give_alike (at c _) (v ∷ []));
@@ -306,6 +339,7 @@ module _ (known : Known) where
           targets = λ v w s. outside_alike (at c _);
           parameters = λ arguments w s. outside_alike (at c _);
           completion = λ w s. written_completes _ w;
+          member = λ has leaves_out ids w s. outside_alike (at c _);
           varied = λ w s. outside_alike (at c _);
           hoisted = λ w s. give_alike (at c _) tt;
           last = λ w s. give_alike (at c _) tt;
@@ -332,6 +366,7 @@ module _ (known : Known) where
           last_declared = refl;
           imported = λ source. refl;
           text = λ texts. refl;
+          member_texts = λ has. refl;
           exports = λ source. refl;
           cooked = refl;
           is_plain = refl;
@@ -354,37 +389,41 @@ module _ (known : Known) where
         block_same = subst₂ (Same c) (sym (meaning-roll (Layer span kind.TsModuleBlock (items ∷ [])))) (sym (ap meaning lowered_is ∙ written_is (lowered items))) parts_same
 
     kind_is : (k' : Kind) → renamed_kind c k' ≡ k'
-    kind_is k' = same_kind (λ n. Unit {0}) lowered known the_same k'
+    kind_is k' = same_kind Lacks lowered known the_same plainly k'
 
-    other_step : (span : Span) (k' : Kind) (cs : List Node) (ns : List ((n : Node) × Kept c n)) → map (λ e. e.0) ns ≡ cs → KeptLayer c k' (map meaning cs)
+    other_step : (span : Span) (k' : Kind) (cs : List Node) (ns : List ((n : Node) × Kept c n)) → map (λ e. e.0) ns ≡ cs → Lacks (roll-Node (Layer span k' cs)) → KeptLayer c k' (map meaning cs)
         → lowered_by k' (map lowered cs) (Layer span k' (map lowered cs)) ≡ roll-Node (Layer span k' (map lowered cs))
         → Same c (meaning (roll-Node (Layer span k' cs))) (meaning (lowered (roll-Node (Layer span k' cs))))
-    other_step span k' cs ns is kept e =
+    other_step span k' cs ns is fine kept e =
         let image : lowered (roll-Node (Layer span k' cs)) ≡ roll-Node (Layer span k' (map lowered cs)) = fold-roll-Node Node lowered_node (Layer span k' cs) ∙ e in
-        layer_same c (Layer span k' cs) ns is tt (all_units cs) kept tt
+        layer_same c (Layer span k' cs) ns is fine (lacks_parts (Layer span k' cs) fine).1 kept tt
         (ap meaning image ∙ meaning-roll (Layer span k' (map lowered cs)) ∙ ap₂ (λ n z. meaning_by n z (map meaning (map lowered cs))) (sym image) (sym (kind_is k')))
 
-    block_step : (span : Span) (items : Node) (ns : List ((n : Node) × Kept c n)) → map (λ e. e.0) ns ≡ items ∷ [] → Same c (meaning items) (meaning (lowered items))
+    block_step : (span : Span) (items : Node) (ns : List ((n : Node) × Kept c n)) → map (λ e. e.0) ns ≡ items ∷ [] → Lacks (roll-Node (Layer span kind.TsModuleBlock (items ∷ []))) → Same c (meaning items) (meaning (lowered items))
         → (b : Bool) → (meaning items).is_type ≡ b → Same c (meaning (roll-Node (Layer span kind.TsModuleBlock (items ∷ [])))) (meaning (lowered (roll-Node (Layer span kind.TsModuleBlock (items ∷ [])))))
-    block_step span items ns is same true types =
-        other_step span kind.TsModuleBlock (items ∷ []) ns is types
+    block_step span items ns is fine same true types =
+        other_step span kind.TsModuleBlock (items ∷ []) ns is fine types
         (ap (λ b. cond b (roll-Node (Layer span kind.TsModuleBlock (lowered items ∷ []))) (called_function (lowered items))) (same.is_type ∙ types))
-    block_step span items ns is same false values = block_same span items same values
+    block_step span items ns is fine same false values = block_same span items fine same values
 
-    first_same : (items : Node) (ns : List ((n : Node) × Kept c n)) → map (λ e. e.0) ns ≡ items ∷ [] → Same c (meaning items) (meaning (lowered items))
-    first_same items [] is = absurd (cc)
-    first_same items (n ∷ ns) is = subst (λ z. Same c (meaning z) (meaning (lowered z))) (ap first_of is) (n.1 tt)
+    first_same : (items : Node) (ns : List ((n : Node) × Kept c n)) → map (λ e. e.0) ns ≡ items ∷ [] → Lacks items → Same c (meaning items) (meaning (lowered items))
+    first_same items [] is lacks = absurd (cc)
+    first_same items (n ∷ ns) is lacks = subst (λ z. Same c (meaning z) (meaning (lowered z))) (ap first_of is) (n.1 (subst Lacks (sym (ap first_of is)) lacks))
 
-    layer_step : (span : Span) (k' : Kind) (cs : List Node) (ns : List ((n : Node) × Kept c n)) → map (λ e. e.0) ns ≡ cs → Same c (meaning (roll-Node (Layer span k' cs))) (meaning (lowered (roll-Node (Layer span k' cs))))
-    layer_step span kind.TsModuleBlock (items ∷ []) ns is = block_step span items ns is (first_same items ns is) (meaning items).is_type refl
-    layer_step span k' cs ns is = other_step span k' cs ns is (kept_layer (λ n. Unit {0}) lowered known the_same k' (map meaning cs)) refl
+    layer_step : (span : Span) (k' : Kind) (cs : List Node) (ns : List ((n : Node) × Kept c n)) → map (λ e. e.0) ns ≡ cs → Lacks (roll-Node (Layer span k' cs)) → Same c (meaning (roll-Node (Layer span k' cs))) (meaning (lowered (roll-Node (Layer span k' cs))))
+    layer_step span kind.TsModuleBlock (items ∷ []) ns is fine = block_step span items ns is fine (first_same items ns is (lacks_parts (Layer span kind.TsModuleBlock (items ∷ [])) fine).1.0) (meaning items).is_type refl
+    layer_step span k' cs ns is fine =
+        other_step span k' cs ns is fine (kept_layer Lacks lowered known the_same plainly k' (map meaning cs) (λ e. absurd (no_enum (is_enum k') (lacks_parts (Layer span k' cs) fine).0 e))) refl
 
     lowering_steps : StepsAlike c
-    lowering_steps x ns is fine fine' = layer_step x.span x.kind x.children ns is
+    lowering_steps x ns is fine fine' = layer_step x.span x.kind x.children ns is fine
 
 pub blocks_may_be_called_as_functions : BlocksMayBeCalledAsFunctions
-blocks_may_be_called_as_functions turns options m script h =
-    let known : Known = known_of m in
+blocks_may_be_called_as_functions turns options m script lacks h =
+    let known : Known = known_of options m in
+    let none : known.enums ≡ no_enums options.ts_enum_is_mutable = lacking_enums options m lacks in
     ap (λ n. observe n options (lowered m) script) (sym (add-zero turns))
-    ∙ observe_while (c known turns) refl (lowering_steps known turns) refl script (λ u. calls_in (lowering known) (lowering_steps known) refl (provided_by script) turns) turns options m tt refl plain_starts (omega arith) tt
+    ∙ observe_while (c known options.ts_enum_is_mutable none turns) refl (lowering_steps known options.ts_enum_is_mutable none turns) refl script
+    (λ u. calls_in (lowering known options.ts_enum_is_mutable none) (lowering_steps known options.ts_enum_is_mutable none) refl (provided_by script) turns) turns options m lacks refl
+    (lacking_enums options (lowered m) (lowered_lacks m lacks) ∙ sym none) plain_starts (omega arith) tt
     (only_outside_excused (observe turns options m script).ending h)

@@ -17,10 +17,10 @@ use Rattle.ecma_run_laws.proofs.Seats.{valued}
 
 -- the first meaning, but where an expression is referred to the second
 abbrev refer_as : Meaning → Meaning → Meaning
-refer_as m m' = record m { reference = m'.reference; assigned = m'.assigned; chain = m'.chain; is_super = m'.is_super; declared = m'.declared }
+refer_as m m' = record m { reference = m'.reference; written = m'.written; assigned = m'.assigned; chain = m'.chain; is_super = m'.is_super; declared = m'.declared }
 
 refers : (m m' : Meaning) → RefersAlike m m' → refer_as m m' ≡ m
-refers m m' r = λ i. record m { reference = r.reference i; assigned = r.assigned i; chain = r.chain i; is_super = r.is_super i; declared = r.declared i }
+refers m m' r = λ i. record m { reference = r.reference i; written = r.written i; assigned = r.assigned i; chain = r.chain i; is_super = r.is_super i; declared = r.declared i }
 
 module _ (swap : Node → Node) (same : (n : Node) → RefersAlike (meaning n) (meaning (swap n))) where
   refer_is : (n : Node) → refer_as (meaning n) (meaning (swap n)) ≡ meaning n
@@ -29,7 +29,7 @@ module _ (swap : Node → Node) (same : (n : Node) → RefersAlike (meaning n) (
   module _ (n : Node) where
     assign_same : (op : AssignOp) (target : Node) (right : Meaning) → assign op (meaning (swap target)) right ≡ assign op (meaning target) right
     assign_same operation.Assign target right = λ i x. (same target).assigned i (right.value x) x
-    assign_same op target right = λ i x. (same target).reference i x >>= λ r. read x r >>= λ v. compound_rest (logical_operator_of op) (operator_of op) r v right x
+    assign_same op target right = λ i x. (same target).written i x >>= λ r. read x r >>= λ v. compound_rest (logical_operator_of op) (operator_of op) r v right x
 
     assign_seat : (op : AssignOp) (target right : Node) → meaning_by n (kind.AssignExpr op) (meaning (swap target) ∷ meaning right ∷ []) ≡ meaning_by n (kind.AssignExpr op) (meaning target ∷ meaning right ∷ [])
     assign_seat op target right = λ i. valued n (assign_same op target (meaning right) i) ((same target).declared i ++ ((meaning right).declared ++ []))

@@ -76,6 +76,7 @@ abbrev pub valued : Node → Evaluation Value → List Id → Meaning
 valued n v declared = record (meaning_by n kind.Null []) {
   value = v;
   reference = λ x. v x >>= λ a. give (ToValue a);
+  written = λ x. v x >>= λ a. give (ToValue a);
   assigned = λ get x. (v x >>= λ a. give (ToValue a)) >>= λ r. get >>= λ w. write x r w >>= λ _. give w;
   initial = v;
   arguments = λ x. v x >>= λ a. give (a ∷ []);
@@ -162,7 +163,7 @@ module _ (swap : Node → Node) (same : (n : Node) → ReadsAlike (meaning n) (m
 
     assign_same : (op : AssignOp) (target : Meaning) (e : Node) → assign op target (meaning (swap e)) ≡ assign op target (meaning e)
     assign_same operation.Assign target e = λ i x. target.assigned ((same e).value i x) x
-    assign_same op target e = λ i x. target.reference x >>= λ r. read x r >>= λ v. compound_same (logical_operator_of op) (operator_of op) r v e i x
+    assign_same op target e = λ i x. target.written x >>= λ r. read x r >>= λ v. compound_same (logical_operator_of op) (operator_of op) r v e i x
 
     assign_seat : (op : AssignOp) (target right : Node) → meaning_by n (kind.AssignExpr op) (meaning target ∷ meaning (swap right) ∷ []) ≡ meaning_by n (kind.AssignExpr op) (meaning target ∷ meaning right ∷ [])
     assign_seat op target right = λ i. valued n (assign_same op (meaning target) right i) ((meaning target).declared ++ ((same right).declared i ++ []))

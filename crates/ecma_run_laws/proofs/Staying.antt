@@ -92,6 +92,8 @@ module _ (test : Id → Bool) where
       either (meaning source).is_required (constant_meaning n (meaning name) (set_export n (meaning name) (meaning source))) (role_by n kind.ExportDecl (constant_meaning n (meaning name) (meaning source) ∷ []))
       (constant_declared n (meaning name) (set_export n (meaning name) (meaning source)) h.0.0 h.0.1.0 (append _ _ h.1.0.1.0 tt), tt)
       (append _ _ (constant_declared n (meaning name) (meaning source) h.0.0 h.0.1.0 h.1.0.1.0) tt, tt)
+  layer_declared n (kind.TsEnumDecl false is_const) (name ∷ members ∷ []) h = (role_declared (kind.TsEnumDecl false is_const) (name ∷ members ∷ []) h, tt)
+  layer_declared n kind.TsEnumMember (name ∷ init ∷ []) h = (role_declared kind.TsEnumMember (name ∷ init ∷ []) h, tt)
   layer_declared n k cs h = either (has_no_effect k (map meaning cs)) (no_effect n) (role_by n k (map meaning cs)) (tt, tt) (role_declared k cs h, role_last k cs h)
 
   DeclaredStand : Node → Type 0

@@ -1,5 +1,5 @@
 -- Declarations of names that nothing uses may go.
-use Rattle.std.proofs.Common.{◌≡◌, ◌++◌, refl, sym, ap, ap₂, ◌∙◌, subst, ℕ, List, [], ◌∷◌, map, Option, Some, None, Bool, true, false, add-zero}
+use Rattle.std.proofs.Common.{◌≡◌, ◌++◌, not, refl, sym, ap, ap₂, ◌∙◌, subst, ℕ, List, [], ◌∷◌, map, Option, Some, None, Bool, true, false, add-zero}
 use Rattle.std.specs.List.{list_all}
 use Rattle.ecma_config.specs.declared.config.Config.{Config}
 use Rattle.ecma_kind.specs.declared.kind.Kind.{Kind}
@@ -22,6 +22,8 @@ use Rattle.ecma_runs.specs.Declarations.{all_names, all_declared, all_last_decla
 use Rattle.ecma_runs.specs.Evaluation.{meaning_by, meaning}
 use Rattle.ecma_runs.specs.Observation.{known_of, exports_in, observe}
 use Rattle.ecma_runs.specs.Names.{passes_by}
+use Rattle.ecma_runs.specs.Enums.{is_enum}
+use Rattle.ecma_runs.proofs.EnumTrees.{Lacks, lacks_parts, lacking_enums}
 use Rattle.ecma_runs.proofs.Layer.{meaning-roll}
 use Rattle.ecma_runs.proofs.Alike.{Change}
 use Rattle.ecma_runs.proofs.Meanings.{Same, Both, pair, firsts, seconds}
@@ -33,17 +35,18 @@ use Rattle.ecma_runs.proofs.Standing.{Passes}
 use Rattle.ecma_run_laws.specs.Lessened.{declarator_goes, specifier_goes, statement_goes, left_of, lessened, without}
 use Rattle.ecma_run_laws.specs.Laws.{UnusedNamesDoNotMatter}
 use Rattle.ecma_run_laws.proofs.Lessening.{less_all, image}
+use Rattle.ecma_run_laws.proofs.Lacking.{without_lacks}
 use Rattle.ecma_run_laws.proofs.Both.{both_true}
-use Rattle.ecma_run_laws.proofs.Dropping.{stands, names_left, dropping, seen, seen_alike, role_seen}
+use Rattle.ecma_run_laws.proofs.Dropping.{HasNone, Fine, stands, names_left, dropping, seen, seen_alike, role_seen}
 use Rattle.ecma_run_laws.proofs.Going.{silent_statement, silent_declarator, silent_specifier, statement_silent, declarator_silent, specifier_silent}
 use Rattle.ecma_run_laws.proofs.Standing.{Layer, each_of, IsFine, parts_left, parts_fine, names_stand, still_clash}
 
 abbrev both_evaluations : Evaluation (Unit {0}) → Evaluation (Unit {0}) → Evaluation (Unit {0})
 both_evaluations e rest x = e x >>= λ _. rest x
 
-module _ (gone : Id → Bool) (default : stands gone default_name ≡ true) (known : Known) where
+module _ (gone : Id → Bool) (default : stands gone default_name ≡ true) (known : Known) (none : HasNone known) where
   abbrev c : Change
-  c = dropping gone known
+  c = dropping gone known none
 
   -- layers of which nothing goes
 
@@ -54,34 +57,35 @@ module _ (gone : Id → Bool) (default : stands gone default_name ≡ true) (kno
   still : (parameters body : Node) → IsFine gone parameters → StillClash c (meaning parameters) (meaning body)
   still parameters body fine = still_clash gone (meaning parameters).names (names_stand gone parameters fine) (meaning body).locals
 
-  layer_kept : (k : Kind) (cs : List Node) → passes_by (stands gone) k ≡ true → AllNodes (IsFine gone) cs → KeptLayer c k (map meaning cs)
-  layer_kept (kind.Ident text ctxt optional) cs h all = (h, refl)
-  layer_kept kind.ExportDefaultExpr cs h all = (default, refl)
-  layer_kept kind.FnExpr cs h all = (default, refl)
-  layer_kept kind.ClassExpr cs h all = (default, refl)
-  layer_kept (kind.NamedExport type_only) (specifiers ∷ source ∷ attributes ∷ []) h all = texts_stay (meaning source).shorthands
-  layer_kept (kind.ExportNamedSpecifier is_type_only) (exported ∷ name ∷ []) h all = (texts_stay (meaning exported).shorthands, texts_stay (meaning name).shorthands)
-  layer_kept kind.ExportNamespaceSpecifier (name ∷ []) h all = texts_stay (meaning name).shorthands
-  layer_kept kind.MemberExpr cs h all = refl
-  layer_kept kind.SuperPropExpr cs h all = refl
-  layer_kept kind.TsQualifiedName cs h all = refl
-  layer_kept kind.CallExpr cs h all = refl
-  layer_kept kind.OptCall cs h all = refl
-  layer_kept kind.NewExpr cs h all = refl
-  layer_kept kind.TsExternalModuleRef cs h all = refl
-  layer_kept kind.TsExportAssignment cs h all = refl
-  layer_kept (kind.TsImportEqualsDecl true false) (name ∷ source ∷ []) h all = (λ required. refl, texts_stay (meaning name).shorthands)
-  layer_kept kind.KeyValuePatProp cs h all = refl
-  layer_kept kind.AssignPatProp (name ∷ default ∷ []) h all = (refl, texts_stay (meaning name).shorthands)
-  layer_kept kind.ObjectLit (properties ∷ []) h all = texts_stay (meaning properties).shorthands
-  layer_kept (kind.Class is_abstract) (super ∷ body ∷ types ∷ super_types ∷ implements ∷ []) h all = texts_stay (meaning body).shorthands
-  layer_kept (kind.ImportDecl type_only) (specifiers ∷ source ∷ attributes ∷ []) h all = texts_stay (meaning source).shorthands
-  layer_kept (kind.ImportNamedSpecifier is_type_only) (local ∷ name ∷ []) h all = (texts_stay (meaning local).shorthands, texts_stay (meaning name).shorthands)
-  layer_kept (kind.Function false false) (parameters ∷ body ∷ types ∷ return_type ∷ []) h all = still parameters body all.0
-  layer_kept (kind.ArrowExpr false false) (parameters ∷ body ∷ types ∷ return_type ∷ []) h all = still parameters body all.0
-  layer_kept kind.SetterProp (key ∷ this_parameter ∷ parameter ∷ body ∷ []) h all = still parameter body all.1.1.0
-  layer_kept (kind.Constructor accessibility is_optional) (key ∷ parameters ∷ body ∷ []) h all = still parameters body all.1.0
-  layer_kept _ cs h all = tt
+  layer_kept : (k : Kind) (cs : List Node) → not (is_enum k) ≡ true → passes_by (stands gone) k ≡ true → AllNodes (IsFine gone) cs → KeptLayer c k (map meaning cs)
+  layer_kept (kind.Ident text ctxt optional) cs here h all = (h, refl)
+  layer_kept kind.ExportDefaultExpr cs here h all = (default, refl)
+  layer_kept kind.FnExpr cs here h all = (default, refl)
+  layer_kept kind.ClassExpr cs here h all = (default, refl)
+  layer_kept (kind.NamedExport type_only) (specifiers ∷ source ∷ attributes ∷ []) here h all = texts_stay (meaning source).shorthands
+  layer_kept (kind.ExportNamedSpecifier is_type_only) (exported ∷ name ∷ []) here h all = (texts_stay (meaning exported).shorthands, texts_stay (meaning name).shorthands)
+  layer_kept kind.ExportNamespaceSpecifier (name ∷ []) here h all = texts_stay (meaning name).shorthands
+  layer_kept kind.MemberExpr cs here h all = refl
+  layer_kept kind.SuperPropExpr cs here h all = refl
+  layer_kept kind.TsQualifiedName cs here h all = refl
+  layer_kept kind.CallExpr cs here h all = refl
+  layer_kept kind.OptCall cs here h all = refl
+  layer_kept kind.NewExpr cs here h all = refl
+  layer_kept kind.TsExternalModuleRef cs here h all = refl
+  layer_kept kind.TsExportAssignment cs here h all = refl
+  layer_kept (kind.TsImportEqualsDecl true false) (name ∷ source ∷ []) here h all = (λ required. refl, texts_stay (meaning name).shorthands)
+  layer_kept kind.KeyValuePatProp cs here h all = refl
+  layer_kept kind.AssignPatProp (name ∷ default ∷ []) here h all = (refl, texts_stay (meaning name).shorthands)
+  layer_kept kind.ObjectLit (properties ∷ []) here h all = texts_stay (meaning properties).shorthands
+  layer_kept (kind.Class is_abstract) (super ∷ body ∷ types ∷ super_types ∷ implements ∷ []) here h all = texts_stay (meaning body).shorthands
+  layer_kept (kind.ImportDecl type_only) (specifiers ∷ source ∷ attributes ∷ []) here h all = texts_stay (meaning source).shorthands
+  layer_kept (kind.ImportNamedSpecifier is_type_only) (local ∷ name ∷ []) here h all = (texts_stay (meaning local).shorthands, texts_stay (meaning name).shorthands)
+  layer_kept (kind.Function false false) (parameters ∷ body ∷ types ∷ return_type ∷ []) here h all = still parameters body all.0
+  layer_kept (kind.ArrowExpr false false) (parameters ∷ body ∷ types ∷ return_type ∷ []) here h all = still parameters body all.0
+  layer_kept kind.SetterProp (key ∷ this_parameter ∷ parameter ∷ body ∷ []) here h all = still parameter body all.1.1.0
+  layer_kept (kind.Constructor accessibility is_optional) (key ∷ parameters ∷ body ∷ []) here h all = still parameters body all.1.0
+  layer_kept (kind.TsEnumDecl false is_const) cs here h all = absurd (cc)
+  layer_kept _ cs here h all = tt
 
   with_kept : (cs : List Node) → AllNodes (Kept c) cs → List ((n : Node) × Kept c n)
   with_kept [] kept = []
@@ -92,22 +96,27 @@ module _ (gone : Id → Bool) (default : stands gone default_name ≡ true) (kno
   with_kept_are [] kept = refl
   with_kept_are (n ∷ cs) kept = ap (λ rest. n ∷ rest) (with_kept_are cs kept.1)
 
+  both_fine : (cs : List Node) → AllNodes (IsFine gone) cs → AllNodes Lacks cs → AllNodes (Fine gone) cs
+  both_fine [] fine lacks = tt
+  both_fine (n ∷ cs) fine lacks = ((fine.0, lacks.0), both_fine cs fine.1 lacks.1)
+
   Step : Span → Kind → List Node → Type 0
   Step span k cs = Same c (meaning (roll-Node (Layer span k cs))) (meaning (without gone (roll-Node (Layer span k cs))))
 
-  other_step : (span : Span) (k : Kind) (cs : List Node) → AllNodes (Kept c) cs → IsFine gone (roll-Node (Layer span k cs)) → left_of k (map (lessened gone) cs) ≡ map (λ l. l.less) (map (lessened gone) cs) → Step span k cs
+  other_step : (span : Span) (k : Kind) (cs : List Node) → AllNodes (Kept c) cs → Fine gone (roll-Node (Layer span k cs)) → left_of k (map (lessened gone) cs) ≡ map (λ l. l.less) (map (lessened gone) cs) → Step span k cs
   unfolding Step
   other_step span k cs kept fine e =
       let x : Node-F Node = Layer span k cs in
       let is : without gone (roll-Node x) ≡ roll-Node (Layer span k (map (without gone) cs)) = image gone x ∙ ap (node_of span k) (e ∙ less_all gone cs) in
-      let t = parts_fine gone x e fine in
-      layer_same c x (with_kept cs kept) (with_kept_are cs kept) fine t.1 (layer_kept k cs t.0 t.1) tt
+      let t = parts_fine gone x e fine.0 in
+      let p = lacks_parts x fine.1 in
+      layer_same c x (with_kept cs kept) (with_kept_are cs kept) fine (both_fine cs t.1 p.1) (layer_kept k cs p.0 t.0 t.1) tt
       (ap meaning is ∙ meaning-roll (Layer span k (map (without gone) cs)) ∙ ap₂ (λ n z. meaning_by n z (map meaning (map (without gone) cs))) (sym is) (sym (same_kind k)))
 
   -- layers of which something may go
 
   -- children that mean alike with those that are left
-  parent_step : (span : Span) (k : Kind) (cs : List Node) (ps : List (Both c)) → IsFine gone (roll-Node (Layer span k cs)) → KeptLayer c k (firsts c ps)
+  parent_step : (span : Span) (k : Kind) (cs : List Node) (ps : List (Both c)) → Fine gone (roll-Node (Layer span k cs)) → KeptLayer c k (firsts c ps)
       → meaning_by (roll-Node (Layer span k cs)) k (firsts c ps) ≡ meaning_by (roll-Node (Layer span k cs)) k (map meaning cs) → map meaning (left_of k (map (lessened gone) cs)) ≡ seconds c ps → Step span k cs
   unfolding Step
   parent_step span k cs ps fine kept before behind =
@@ -122,27 +131,27 @@ module _ (gone : Id → Bool) (default : stands gone default_name ≡ true) (kno
   -- what is left of lists of statements, of declarators and of specifiers
 
   abbrev statements_seen : Node → Meaning
-  statements_seen n = seen gone known (statement_goes gone) (λ l. l.statements) (λ parts. refl) silent_statement (statement_silent gone known) n
+  statements_seen n = seen gone known none (statement_goes gone) (λ l. l.statements) (λ parts. refl) silent_statement (statement_silent gone known none) n
 
   abbrev declarators_seen : Node → Meaning
-  declarators_seen n = seen gone known (declarator_goes gone) (λ l. l.declarators) (λ parts. refl) silent_declarator (declarator_silent gone known) n
+  declarators_seen n = seen gone known none (declarator_goes gone) (λ l. l.declarators) (λ parts. refl) silent_declarator (declarator_silent gone known none) n
 
   abbrev specifiers_seen : Node → Meaning
-  specifiers_seen n = seen gone known (specifier_goes gone) (λ l. l.specifiers) (λ parts. refl) silent_specifier (specifier_silent gone known) n
+  specifiers_seen n = seen gone known none (specifier_goes gone) (λ l. l.specifiers) (λ parts. refl) silent_specifier (specifier_silent gone known none) n
 
   module _ {A : Type 0} (role : Meaning → A) (all : List Meaning → A) (is_all : (n : Node) (ms : List Meaning) → role (meaning_by n kind.List ms) ≡ all ms)
       (join : A → A → A) (joined : (m : Meaning) (ms : List Meaning) → all (m ∷ ms) ≡ join (role m) (all ms)) where
     statements_role : ((m : Meaning) → role (silent_statement m) ≡ role m) → (n : Node) → role (statements_seen n) ≡ role (meaning n)
     statements_role alone n =
-        role_seen gone known (statement_goes gone) (λ l. l.statements) (λ parts. refl) silent_statement (statement_silent gone known) role all is_all join joined (λ n e. alone (meaning n)) n
+        role_seen gone known none (statement_goes gone) (λ l. l.statements) (λ parts. refl) silent_statement (statement_silent gone known none) role all is_all join joined (λ n e. alone (meaning n)) n
 
     declarators_role : ((m : Meaning) → role (silent_declarator m) ≡ role m) → (n : Node) → role (declarators_seen n) ≡ role (meaning n)
     declarators_role alone n =
-        role_seen gone known (declarator_goes gone) (λ l. l.declarators) (λ parts. refl) silent_declarator (declarator_silent gone known) role all is_all join joined (λ n e. alone (meaning n)) n
+        role_seen gone known none (declarator_goes gone) (λ l. l.declarators) (λ parts. refl) silent_declarator (declarator_silent gone known none) role all is_all join joined (λ n e. alone (meaning n)) n
 
     specifiers_role : ((m : Meaning) → role (silent_specifier m) ≡ role m) → (n : Node) → role (specifiers_seen n) ≡ role (meaning n)
     specifiers_role alone n =
-        role_seen gone known (specifier_goes gone) (λ l. l.specifiers) (λ parts. refl) silent_specifier (specifier_silent gone known) role all is_all join joined (λ n e. alone (meaning n)) n
+        role_seen gone known none (specifier_goes gone) (λ l. l.specifiers) (λ parts. refl) silent_specifier (specifier_silent gone known none) role all is_all join joined (λ n e. alone (meaning n)) n
 
   -- in the roles in which the list is used it means what it means
 
@@ -213,36 +222,41 @@ module _ (gone : Id → Bool) (default : stands gone default_name ≡ true) (kno
   deep_kept [] deep = tt
   deep_kept (n ∷ cs) deep = (deep.0.0, deep_kept cs deep.1)
 
-  abbrev statements_both : (body : Node) → Deep body → Passes (stands gone) (lessened gone body).statements → Both c
-  statements_both body deep fine =
+  abbrev statements_both : (body : Node) → Deep body → Lacks body → Passes (stands gone) (lessened gone body).statements → Both c
+  statements_both body deep lacks fine =
       pair c (statements_seen body) (meaning (lessened gone body).statements)
-      (seen_alike gone known (statement_goes gone) (λ l. l.statements) (λ parts. refl) silent_statement (statement_silent gone known) body deep.0 deep.1 fine)
+      (seen_alike gone known none (statement_goes gone) (λ l. l.statements) (λ parts. refl) silent_statement (statement_silent gone known none) body deep.0 deep.1 lacks fine)
 
-  abbrev declarators_both : (ds : Node) → Deep ds → Passes (stands gone) (lessened gone ds).declarators → Both c
-  declarators_both ds deep fine =
+  abbrev declarators_both : (ds : Node) → Deep ds → Lacks ds → Passes (stands gone) (lessened gone ds).declarators → Both c
+  declarators_both ds deep lacks fine =
       pair c (declarators_seen ds) (meaning (lessened gone ds).declarators)
-      (seen_alike gone known (declarator_goes gone) (λ l. l.declarators) (λ parts. refl) silent_declarator (declarator_silent gone known) ds deep.0 deep.1 fine)
+      (seen_alike gone known none (declarator_goes gone) (λ l. l.declarators) (λ parts. refl) silent_declarator (declarator_silent gone known none) ds deep.0 deep.1 lacks fine)
 
-  abbrev specifiers_both : (ss : Node) → Deep ss → Passes (stands gone) (lessened gone ss).specifiers → Both c
-  specifiers_both ss deep fine =
+  abbrev specifiers_both : (ss : Node) → Deep ss → Lacks ss → Passes (stands gone) (lessened gone ss).specifiers → Both c
+  specifiers_both ss deep lacks fine =
       pair c (specifiers_seen ss) (meaning (lessened gone ss).specifiers)
-      (seen_alike gone known (specifier_goes gone) (λ l. l.specifiers) (λ parts. refl) silent_specifier (specifier_silent gone known) ss deep.0 deep.1 fine)
+      (seen_alike gone known none (specifier_goes gone) (λ l. l.specifiers) (λ parts. refl) silent_specifier (specifier_silent gone known none) ss deep.0 deep.1 lacks fine)
 
-  layer_step : (span : Span) (k : Kind) (cs : List Node) → AllNodes Deep cs → IsFine gone (roll-Node (Layer span k cs)) → Step span k cs
+  layer_step : (span : Span) (k : Kind) (cs : List Node) → AllNodes Deep cs → Fine gone (roll-Node (Layer span k cs)) → Step span k cs
   layer_step span (kind.Module shebang) (body ∷ []) deep fine =
-      let p = statements_both body deep.0 (parts_left gone (Layer span (kind.Module shebang) (body ∷ [])) fine).1.0 in
+      let x : Node-F Node = Layer span (kind.Module shebang) (body ∷ []) in
+      let p = statements_both body deep.0 (lacks_parts x fine.1).1.0 (parts_left gone x fine.0).1.0 in
       parent_step span (kind.Module shebang) (body ∷ []) (p ∷ []) fine tt (module_like (roll-Node (Layer span (kind.Module shebang) (body ∷ []))) shebang body) refl
   layer_step span kind.BlockStmt (body ∷ []) deep fine =
-      let p = statements_both body deep.0 (parts_left gone (Layer span kind.BlockStmt (body ∷ [])) fine).1.0 in
+      let x : Node-F Node = Layer span kind.BlockStmt (body ∷ []) in
+      let p = statements_both body deep.0 (lacks_parts x fine.1).1.0 (parts_left gone x fine.0).1.0 in
       parent_step span kind.BlockStmt (body ∷ []) (p ∷ []) fine tt (block_like (roll-Node (Layer span kind.BlockStmt (body ∷ []))) body) refl
   layer_step span (kind.VarDecl word false) (ds ∷ []) deep fine =
-      let p = declarators_both ds deep.0 (parts_left gone (Layer span (kind.VarDecl word false) (ds ∷ [])) fine).1.0 in
+      let x : Node-F Node = Layer span (kind.VarDecl word false) (ds ∷ []) in
+      let p = declarators_both ds deep.0 (lacks_parts x fine.1).1.0 (parts_left gone x fine.0).1.0 in
       parent_step span (kind.VarDecl word false) (ds ∷ []) (p ∷ []) fine tt (declaration_like (roll-Node (Layer span (kind.VarDecl word false) (ds ∷ []))) word ds) refl
   layer_step span (kind.ImportDecl false) (ss ∷ source ∷ attributes ∷ []) deep fine =
-      let t = (parts_left gone (Layer span (kind.ImportDecl false) (ss ∷ source ∷ attributes ∷ [])) fine).1 in
-      let p = specifiers_both ss deep.0 t.0 in
-      let q : Both c = pair c (meaning source) (meaning (without gone source)) (deep.1.0.0 t.1.0) in
-      let r : Both c = pair c (meaning attributes) (meaning (without gone attributes)) (deep.1.1.0.0 t.1.1.0) in
+      let x : Node-F Node = Layer span (kind.ImportDecl false) (ss ∷ source ∷ attributes ∷ []) in
+      let t = (parts_left gone x fine.0).1 in
+      let l = (lacks_parts x fine.1).1 in
+      let p = specifiers_both ss deep.0 l.0 t.0 in
+      let q : Both c = pair c (meaning source) (meaning (without gone source)) (deep.1.0.0 (t.1.0, l.1.0)) in
+      let r : Both c = pair c (meaning attributes) (meaning (without gone attributes)) (deep.1.1.0.0 (t.1.1.0, l.1.1.0)) in
       parent_step span (kind.ImportDecl false) (ss ∷ source ∷ attributes ∷ []) (p ∷ q ∷ r ∷ []) fine (texts_stay (meaning source).shorthands) (import_like (roll-Node (Layer span (kind.ImportDecl false) (ss ∷ source ∷ attributes ∷ []))) ss source attributes) refl
   layer_step span k cs deep fine = other_step span k cs (deep_kept cs deep) fine refl
 
@@ -256,11 +270,14 @@ module _ (gone : Id → Bool) (default : stands gone default_name ≡ true) (kno
   steps x ns is fine fine' = (deep (roll-Node x)).0 fine'
 
 -- variables that are exported stay
-pub unused_kept : (gone : Id → Bool) (turns : ℕ) (options : Config) (m : Node) (script : Script) → stands gone default_name ≡ true → LocalsPass (stands gone) (exports_in m) → Passes (stands gone) (without gone m)
+pub unused_kept : (gone : Id → Bool) (turns : ℕ) (options : Config) (m : Node) (script : Script) → Lacks m → stands gone default_name ≡ true → LocalsPass (stands gone) (exports_in m) → Passes (stands gone) (without gone m)
     → observe turns options (without gone m) script ≡ observe turns options m script
-unused_kept gone turns options m script default exported unused =
+unused_kept gone turns options m script lacks default exported unused =
+    let known : Known = known_of options m in
+    let none : HasNone known = (options.ts_enum_is_mutable, lacking_enums options m lacks) in
     ap (λ n. observe n options (without gone m) script) (sym (add-zero turns))
-    ∙ observe_unless (dropping gone (known_of m)) refl (steps gone default (known_of m)) refl refl turns options m script unused refl
+    ∙ observe_unless (dropping gone known none) refl (steps gone default known none) refl refl turns options m script (unused, lacks) refl
+    (lacking_enums options (without gone m) (without_lacks gone m lacks) ∙ sym none.1)
     (tt, record { free = tt }, tt, keeps_plain (names_left gone) refl (ids_of (meaning m).locals) (exports_in m) exported (texts_stay (export_names (exports_in m)))) tt tt (none_excused _)
 
 exported_pass : (test : Id → Bool) (entries : List Exported) → list_all test (local_ids entries) ≡ true → LocalsPass test entries
@@ -270,4 +287,4 @@ exported_pass test (Indirect name source imported ∷ entries) h = exported_pass
 exported_pass test (Star ∷ entries) h = exported_pass test entries h
 
 pub unused_names_do_not_matter : UnusedNamesDoNotMatter
-unused_names_do_not_matter gone turns options m script default exported unused = unused_kept gone turns options m script default (exported_pass (stands gone) (exports_in m) exported) unused
+unused_names_do_not_matter gone turns options m script lacks default exported unused = unused_kept gone turns options m script lacks default (exported_pass (stands gone) (exports_in m) exported) unused

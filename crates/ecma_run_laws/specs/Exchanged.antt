@@ -95,6 +95,7 @@ exchanged swap = rewritten (exchanged_node swap)
 -- and it declares the same
 pub record RefersAlike (m m' : Meaning) : Type 0 where
   pub reference : m'.reference ≡ m.reference
+  pub written : m'.written ≡ m.written
   pub assigned : m'.assigned ≡ m.assigned
   pub chain : m'.chain ≡ m.chain
   pub is_super : m'.is_super ≡ m.is_super

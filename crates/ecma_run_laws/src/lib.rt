@@ -1,4 +1,4 @@
-//! What may be changed of a module so that it is observed to do what it does, over the definitions of `ecma_runs` alone.
+//! What may be changed of a module without enums so that it is observed to do what it does, over the definitions of `ecma_runs` alone.
 //!
 //! Each function carries one law, and does nothing. The laws are stated in `specs/Laws.antt`.
 #![tactic(auto)]

@@ -24,7 +24,8 @@ use Rattle.ecma_run_places.proofs.Records.{empties_like, set_all_kept, new_envir
 use Rattle.ecma_run_places.proofs.Objects.{functions_like, bound_functions_like, MaybeCalling, calling_at_kept, define_kept, define_data_kept, with_getter_like, with_setter_like, keep_field_keys_kept}
 use Rattle.ecma_run_places.proofs.Members.{prototype_property_kept}
 use Rattle.ecma_run_places.proofs.Functions.{read_alike, super_call_alike, first_like, new_prototype_alike, new_function_alike, prototype_entries_like, make_function_alike, make_generator_alike}
-use Rattle.ecma_run_places.proofs.Expressions.{Part, meanings, value_alike, identifier_kept}
+use Rattle.ecma_run_places.proofs.EnumReads.{identifier_alike}
+use Rattle.ecma_run_places.proofs.Expressions.{Part, meanings, value_alike}
 
 -- ---- functions
 
@@ -194,7 +195,8 @@ module _ (node : Node) where
   pub defined_alike : {w : World} (c : Contexts w) (k : Kind) (ps : List Part) {a b o o' : ℕ} → Objects w a b → Objects w o o'
       → Alike w Same (defined_of node k (meanings ps) a o (first c)) (defined_of node k (meanings ps) b o' (second c))
   defined_alike c kind.List ps p q = all_defined_alike c ps p q
-  defined_alike c (kind.Ident sym ctxt optional) [] p q = here_bind (identifier_kept c sym ctxt) (λ _ _ r. bind (read_alike c r) (λ v u _ _ z. here_bind_same (define_data_kept (u.objects _ _ q) sym z) (λ _. give_alike is)))
+  defined_alike c (kind.Ident sym ctxt optional) [] p q = bind (identifier_alike c sym ctxt)
+      (λ v u _ _ r. bind (read_alike (later u c) r) (λ v' u' _ _ z. here_bind_same (define_data_kept (u'.objects _ _ (u.objects _ _ q)) sym z) (λ _. give_alike is)))
   defined_alike c kind.KeyValueProp (key ∷ value ∷ []) p q =
       bind_same (key.1.key c) (λ v u k. here_bind_same (when_kept refl outside_kept (give_kept is)) (λ k. bind (value.1.value (later u c)) (λ v' u' _ _ r. here_bind_same (define_data_kept (u'.objects _ _ (u.objects _ _ q)) k r) (λ _. give_alike is))))
   defined_alike c kind.MethodProp (key ∷ function ∷ []) p q = method_alike c method.Method key function q

@@ -19,16 +19,17 @@ use Rattle.ecma_runs.specs.Environment.{Reference, ToMember, ToValue, set_all}
 use Rattle.ecma_runs.specs.Meaning.{inside, Meaning}
 use Rattle.ecma_runs.specs.Operators.{operator_of, short_circuit, logical_operator_of, updated}
 use Rattle.ecma_runs.specs.Functions.{read, read_object, Callee, callee_by}
-use Rattle.ecma_runs.specs.Expressions.{identifier, member_of, member_reference, super_reference, chained, call_by, is_in, applied, binary_rest, logical_rest, compound_rest, assign, unary, update, sequence, interleaved, function_value, value_of, reference_of, continued, callee_is_nullish, member_link, call_link, link_of, chain_of, initial_of, all_arguments, arguments_of, all_elements, elements_of, all_texts, texts_of, key_of, test_of}
+use Rattle.ecma_runs.specs.Expressions.{identifier, member_of, member_reference, read_member, super_reference, chained, call_by, is_in, applied, binary_rest, logical_rest, compound_rest, assign, unary, update, sequence, interleaved, function_value, value_of, reference_of, written_of, continued, callee_is_nullish, member_link, call_link, link_of, chain_of, initial_of, all_arguments, arguments_of, all_elements, elements_of, all_texts, texts_of, key_of, test_of}
 use Rattle.ecma_run_places.specs.Worlds.{no_more, more, neither, both, World, Same, is, Like, undefineds, nulls, truths, numbers, texts, owns, hosts, errors, LikeEntered, entered_like, objects_like}
 use Rattle.ecma_run_places.specs.Alike.{Alike, Likes, LikeElements, LikeReference, to_variables, to_frees, to_members, to_supers, to_import_metas, to_meta_members, to_values, LikeChain, Contexts, first, second, MeansAlike}
 use Rattle.ecma_run_places.proofs.Growing.{above, value_up, values_up, elements_up, reference_up, later, place_up}
 use Rattle.ecma_run_places.proofs.Combinators.{Keeps, keeps_alike, kept_bind_same, here_bind, here_bind_same, bind, bind_same, give_kept, throw_kept, outside_kept, give_alike, give_same, outside_alike, when_kept, when_alike, given_same, given_equal}
 use Rattle.ecma_run_places.proofs.Host.{each_append}
-use Rattle.ecma_run_places.proofs.Records.{empties_like, set_all_kept, resolved_kept, enter, inward, activation_kept, this_kept}
+use Rattle.ecma_run_places.proofs.Records.{empties_like, set_all_kept, enter, inward, activation_kept, this_kept}
 use Rattle.ecma_run_places.proofs.Objects.{new_object_alike, super_base_kept, new_array_alike}
 use Rattle.ecma_run_places.proofs.Members.{has_member_kept, instance_of_kept, type_of_kept}
 use Rattle.ecma_run_places.proofs.Functions.{read_alike, write_alike, read_object_alike, read_typed_alike, delete_kept, LikeCallee, called_like, called_super_like, borrowed_like, callee_up, callee_by_alike, call_alike, construct_alike, given_value, given_place, super_call_alike, make_function_alike, new_regular_expression_alike}
+use Rattle.ecma_run_places.proofs.EnumReads.{reading_firm, known_reference_alike, identifier_alike, written_identifier_alike}
 use Rattle.ecma_run_places.proofs.Operators.{truth_same, nullish_same, text_same, number_same, binary_like, unary_like, short_same}
 
 -- a meaning that is done alike
@@ -40,11 +41,8 @@ meanings ps = map (λ p. p.0) ps
 
 -- ---- names and members
 
-pub identifier_kept : {w : World} (c : Contexts w) (sym : List ℕ) (ctxt : ℕ) → Keeps w LikeReference (identifier sym ctxt (first c)) (identifier sym ctxt (second c))
-identifier_kept c sym ctxt = resolved_kept c.scopes c.known.declared (record { sym = sym; ctxt = ctxt })
-
-identifier_alike : {w : World} (c : Contexts w) (sym : List ℕ) (ctxt : ℕ) → Alike w Like (identifier sym ctxt (first c) >>= λ r. read (first c) r) (identifier sym ctxt (second c) >>= λ r. read (second c) r)
-identifier_alike c sym ctxt = here_bind (identifier_kept c sym ctxt) (λ _ _ r. read_alike c r)
+value_identifier_alike : {w : World} (c : Contexts w) (sym : List ℕ) (ctxt : ℕ) → Alike w Like (identifier sym ctxt (first c) >>= λ r. read (first c) r) (identifier sym ctxt (second c) >>= λ r. read (second c) r)
+value_identifier_alike c sym ctxt = bind (identifier_alike c sym ctxt) (λ v u _ _ r. read_alike (later u c) r)
 
 -- a member of what was referred to
 object_member : {w : World} (c : Contexts w) {r r' : Reference} → LikeReference w r r' → (key : Part)
@@ -64,6 +62,9 @@ member_of_alike c (to_values q) key = object_member c (to_values q) key
 
 member_reference_alike : {w : World} (c : Contexts w) (object key : Part) → Alike w LikeReference (member_reference object.0 key.0 (first c)) (member_reference object.0 key.0 (second c))
 member_reference_alike c object key = bind (object.1.reference c) (λ v u _ _ r. member_of_alike (later u c) r key)
+
+read_member_alike : {w : World} (node : Node) (c : Contexts w) (object key : Part) → Alike w LikeReference (read_member node object.0 key.0 (first c)) (read_member node object.0 key.0 (second c))
+read_member_alike node c object key = known_reference_alike c (reading_firm c.known.enums node) (member_reference object.0 key.0) (member_reference object.0 key.0) (member_reference_alike c object key)
 
 super_reference_alike : {w : World} (c : Contexts w) (key : Part) → Alike w LikeReference (super_reference key.0 (first c)) (super_reference key.0 (second c))
 super_reference_alike c key =
@@ -115,10 +116,10 @@ compound_rest_alike c None (Some arithmetic) r q right =
 compound_rest_alike c None None r q right = outside_alike
 
 compound_alike : {w : World} (c : Contexts w) (op : AssignOp) (target right : Part)
-    → Alike w Like (target.0.reference (first c) >>= λ r. read (first c) r >>= λ v. compound_rest (logical_operator_of op) (operator_of op) r v right.0 (first c))
-    (target.0.reference (second c) >>= λ r. read (second c) r >>= λ v. compound_rest (logical_operator_of op) (operator_of op) r v right.0 (second c))
+    → Alike w Like (target.0.written (first c) >>= λ r. read (first c) r >>= λ v. compound_rest (logical_operator_of op) (operator_of op) r v right.0 (first c))
+    (target.0.written (second c) >>= λ r. read (second c) r >>= λ v. compound_rest (logical_operator_of op) (operator_of op) r v right.0 (second c))
 compound_alike c op target right =
-    bind (target.1.reference c) (λ v u _ _ r. bind (read_alike (later u c) r) (λ v' u' _ _ z. compound_rest_alike (later (above u u') c) (logical_operator_of op) (operator_of op) (reference_up u' r) z right))
+    bind (target.1.written c) (λ v u _ _ r. bind (read_alike (later u c) r) (λ v' u' _ _ z. compound_rest_alike (later (above u u') c) (logical_operator_of op) (operator_of op) (reference_up u' r) z right))
 
 assign_alike : {w : World} (c : Contexts w) (op : AssignOp) (target right : Part) → Alike w Like (assign op target.0 right.0 (first c)) (assign op target.0 right.0 (second c))
 assign_alike c operation.Assign target right = target.1.assigned c (λ v u. right.1.value (later u c))
@@ -126,12 +127,12 @@ assign_alike c op target right = compound_alike c op target right
 
 unary_alike : {w : World} (c : Contexts w) (op : UnaryOp) (operand : Part) → Alike w Like (unary op operand.0 (first c)) (unary op operand.0 (second c))
 unary_alike c operator.TypeOf operand = bind (operand.1.reference c) (λ v u _ _ r. bind (read_typed_alike (later u c) r) (λ v' u' _ _ z. keeps_alike (type_of_kept z)))
-unary_alike c operator.Delete operand = bind (operand.1.reference c) (λ v u _ _ r. keeps_alike (delete_kept r))
+unary_alike c operator.Delete operand = bind (operand.1.written c) (λ v u _ _ r. keeps_alike (delete_kept r))
 unary_alike c op operand = bind (operand.1.value c) (λ v u _ _ z. keeps_alike (given_value (unary_like op z)))
 
 update_alike : {w : World} (c : Contexts w) (op : UpdateOp) (prefix : Bool) (operand : Part) → Alike w Like (update op prefix operand.0 (first c)) (update op prefix operand.0 (second c))
 update_alike c op prefix operand =
-    bind (operand.1.reference c) (λ v u _ _ r. bind (read_alike (later u c) r) (λ v' u' _ _ z. here_bind_same (given_equal (number_same z)) (λ old. here_bind_same (given_same (updated op old)) (λ new.
+    bind (operand.1.written c) (λ v u _ _ r. bind (read_alike (later u c) r) (λ v' u' _ _ z. here_bind_same (given_equal (number_same z)) (λ old. here_bind_same (given_same (updated op old)) (λ new.
     bind_same (write_alike (later (above u u') c) (reference_up u' r) (numbers new)) (λ v'' u'' _. give_alike (numbers (cond prefix new old)))))))
 
 sequence_alike : {w : World} (c : Contexts w) (es : List Part) → Alike w Like (sequence (meanings es) (first c)) (sequence (meanings es) (second c))
@@ -186,7 +187,7 @@ call_chain c optional arguments (both r) = bind (callee_by_alike c r) (λ v u _ 
 
 module _ (node : Node) where
   pub value_alike : {w : World} (c : Contexts w) (k : Kind) (ps : List Part) → Alike w Like (value_of node k (meanings ps) (first c)) (value_of node k (meanings ps) (second c))
-  value_alike c (kind.Ident sym ctxt optional) [] = identifier_alike c sym ctxt
+  value_alike c (kind.Ident sym ctxt optional) [] = value_identifier_alike c sym ctxt
   value_alike c (kind.Str text raw) [] = give_alike (texts text)
   value_alike c (kind.Number number raw) [] = here_bind_same (given_same number) (λ n. give_alike (numbers n))
   value_alike c (kind.Bool truth) [] = give_alike (truths truth)
@@ -206,7 +207,7 @@ module _ (node : Node) where
   value_alike c (kind.AssignExpr op) (target ∷ right ∷ []) = assign_alike c op target right
   value_alike c kind.CondExpr (test ∷ yes' ∷ no' ∷ []) = bind (test.1.value c) (λ v u _ _ q. when_alike (truth_same q) (yes'.1.value (later u c)) (no'.1.value (later u c)))
   value_alike c kind.SeqExpr ps = sequence_alike c ps
-  value_alike c kind.MemberExpr (object ∷ key ∷ []) = bind (member_reference_alike c object key) (λ v u _ _ r. read_alike (later u c) r)
+  value_alike c kind.MemberExpr (object ∷ key ∷ []) = bind (read_member_alike node c object key) (λ v u _ _ r. read_alike (later u c) r)
   value_alike c kind.SuperPropExpr (super ∷ key ∷ []) = bind (super_reference_alike c key) (λ v u _ _ r. read_alike (later u c) r)
   value_alike c kind.CallExpr (callee ∷ arguments ∷ types ∷ []) = call_by_alike c callee.0.is_super callee arguments
   value_alike c kind.NewExpr (callee ∷ arguments ∷ types ∷ []) =
@@ -222,13 +223,19 @@ module _ (node : Node) where
   valued c k ps = bind (value_alike c k ps) (λ v u _ _ q. give_alike (to_values q))
 
   pub reference_alike : {w : World} (c : Contexts w) (k : Kind) (ps : List Part) → Alike w LikeReference (reference_of node k (meanings ps) (first c)) (reference_of node k (meanings ps) (second c))
-  reference_alike c (kind.Ident sym ctxt optional) [] = keeps_alike (identifier_kept c sym ctxt)
+  reference_alike c (kind.Ident sym ctxt optional) [] = identifier_alike c sym ctxt
   reference_alike c kind.BindingIdent (id ∷ annotation ∷ []) = id.1.reference c
-  reference_alike c kind.MemberExpr (object ∷ key ∷ []) = member_reference_alike c object key
+  reference_alike c kind.MemberExpr (object ∷ key ∷ []) = read_member_alike node c object key
   reference_alike c kind.SuperPropExpr (super ∷ key ∷ []) = super_reference_alike c key
   reference_alike c (kind.MetaPropExpr ImportMeta) [] = give_alike to_import_metas
   reference_alike c (kind.OptChainExpr optional) (base ∷ []) = bind (base.1.link c optional) (λ v u _ _ o. give_alike (chained_like o))
   reference_alike c k ps = valued c k ps
+
+  pub written_alike : {w : World} (c : Contexts w) (k : Kind) (ps : List Part) → Alike w LikeReference (written_of node k (meanings ps) (first c)) (written_of node k (meanings ps) (second c))
+  written_alike c (kind.Ident sym ctxt optional) [] = written_identifier_alike c sym ctxt
+  written_alike c kind.BindingIdent (id ∷ annotation ∷ []) = id.1.written c
+  written_alike c kind.MemberExpr (object ∷ key ∷ []) = member_reference_alike c object key
+  written_alike c k ps = reference_alike c k ps
 
   pub chain_alike : {w : World} (c : Contexts w) (k : Kind) (ps : List Part) → Alike w LikeChain (chain_of node k (meanings ps) (first c)) (chain_of node k (meanings ps) (second c))
   chain_alike c (kind.OptChainExpr optional) (base ∷ []) = base.1.link c optional

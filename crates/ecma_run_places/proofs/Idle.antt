@@ -13,7 +13,8 @@ use Rattle.ecma_runs.specs.Operators.{key_from, binary_value}
 use Rattle.ecma_runs.specs.Objects.{new_object, Calling, Function, BoundFunction, calling_of, calling_at, found_from}
 use Rattle.ecma_runs.specs.Members.{is_there, inherits, prototype_value, instance_by, instance_of_function, instance_of_calling, instance_of, type_by, type_of}
 use Rattle.ecma_runs.specs.Functions.{read, read_typed, function_object, closure_of, prototype_entries, make_function, open_entries, plain_object, make_generator, new_regular_expression}
-use Rattle.ecma_runs.specs.Expressions.{identifier, is_in, applied}
+use Rattle.ecma_runs.specs.Enums.{enum_of, is_hidden}
+use Rattle.ecma_runs.specs.Expressions.{named, identifier, is_in, applied}
 use Rattle.ecma_run_places.specs.Worlds.{Paired, World, IsFree, arguments_of_activation, arguments_at, LikeArguments, States}
 use Rattle.ecma_run_places.specs.Alike.{Contexts, first}
 use Rattle.ecma_run_places.proofs.Lists.{else_changed, not_equal, equal_not}
@@ -72,11 +73,21 @@ named_drops : {w : World} {A : Type 0} (k : Reference → Run A) → ((place : �
 named_drops k hv hf [] declared id = when_then (is_among id declared) outside (give (ToFree id.sym)) k (record { at = λ st. dropped_end }) (record { at = λ st. (hf id.sym).at st })
 named_drops k hv hf (e ∷ outer) declared id = when_then (is_among id e.ids) (give (ToVariable e.place id)) (resolved outer declared id) k (record { at = λ st. (hv e.place id).at st }) (named_drops k hv hf outer declared id)
 
-pub identifier_drops : {w : World} (c : Contexts w) (sym : List ℕ) (ctxt : ℕ) → Drops w (identifier sym ctxt (first c) >>= λ r. read (first c) r)
-identifier_drops c sym ctxt = named_drops (λ r. read (first c) r) (λ place id. read_variable_drops c.provided.imports place id) (λ name. free_drops c name) c.scope c.known.declared (record { sym = sym; ctxt = ctxt })
+-- no name is that of a member
+abbrev pub NoMembers : {w : World} → Contexts w → Type 0
+NoMembers c = c.known.enums.names ≡ []
 
-pub typed_identifier_drops : {w : World} (c : Contexts w) (sym : List ℕ) (ctxt : ℕ) → Drops w (identifier sym ctxt (first c) >>= λ r. read_typed (first c) r)
-typed_identifier_drops c sym ctxt = named_drops (λ r. read_typed (first c) r) (λ place id. read_variable_drops c.provided.imports place id) (λ name. typed_drops c name) c.scope c.known.declared (record { sym = sym; ctxt = ctxt })
+no_member_drops : {w : World} (c : Contexts w) → NoMembers c → (id : Id) {A : Type 0} (k : Reference → Run A) → ((place : ℕ) (id : Id) → Drops w (k (ToVariable place id))) → ((name : List ℕ) → Drops w (k (ToFree name)))
+    → Drops w (named (enum_of id c.known.enums.names) id (first c) >>= k)
+no_member_drops {w} c none id k hv hf =
+    subst (λ names. Drops w (named (enum_of id names) id (first c) >>= k)) (sym none)
+    (when_then (is_hidden c.known.enums id) outside (resolved c.scope c.known.declared id) k (record { at = λ st. dropped_end }) (named_drops k hv hf c.scope c.known.declared id))
+
+pub identifier_drops : {w : World} (c : Contexts w) → NoMembers c → (sym : List ℕ) (ctxt : ℕ) → Drops w (identifier sym ctxt (first c) >>= λ r. read (first c) r)
+identifier_drops c none sym ctxt = no_member_drops c none (record { sym = sym; ctxt = ctxt }) (λ r. read (first c) r) (λ place id. read_variable_drops c.provided.imports place id) (λ name. free_drops c name)
+
+pub typed_identifier_drops : {w : World} (c : Contexts w) → NoMembers c → (sym : List ℕ) (ctxt : ℕ) → Drops w (identifier sym ctxt (first c) >>= λ r. read_typed (first c) r)
+typed_identifier_drops c none sym ctxt = no_member_drops c none (record { sym = sym; ctxt = ctxt }) (λ r. read_typed (first c) r) (λ place id. read_variable_drops c.provided.imports place id) (λ name. typed_drops c name)
 
 given_or_error : {w : World} (o : Option Value) → Drops w (given_or o reference_error)
 given_or_error (Some v) = give_drops v

@@ -38,4 +38,4 @@ names_may_be_read_for_nothing = record {
 }
 
 pub what_only_makes_may_go : WhatOnlyMakesMayGo
-what_only_makes_may_go e w c s s' t v is st done = behind (only_makes_drops e is c) s s' t v st done
+what_only_makes_may_go e w c s s' t v none is st done = behind (only_makes_drops e is c none) s s' t v st done

@@ -9,6 +9,7 @@ pub mod Operators
 pub mod Members
 pub mod Arguments
 pub mod Functions
+pub mod EnumReads
 pub mod Expressions
 pub mod Patterns
 pub mod Statements

@@ -25,17 +25,21 @@ use Rattle.ecma_run_places.specs.Worlds.{World, States}
 use Rattle.ecma_run_places.specs.Alike.{Contexts, first}
 use Rattle.ecma_run_places.specs.Making.{Making, all_only, unary_only, only_by, named_by, making_step, making, only_makes}
 use Rattle.ecma_run_places.proofs.Dropping.{Dropped, dropped_end, Drops}
-use Rattle.ecma_run_places.proofs.Idle.{drops_bind, drops_together, given_drops, give_drops, outside_drops, when_drops, identifier_drops, typed_identifier_drops, this_drops, new_object_drops, make_function_drops, make_generator_drops, new_regular_expression_drops, made_record, next_record_free, set_all_drops, applied_drops, type_of_drops}
+use Rattle.ecma_run_places.proofs.Idle.{NoMembers, drops_bind, drops_together, given_drops, give_drops, outside_drops, when_drops, identifier_drops, typed_identifier_drops, this_drops, new_object_drops, make_function_drops, make_generator_drops, new_regular_expression_drops, made_record, next_record_free, set_all_drops, applied_drops, type_of_drops}
 
 both_true : (a b : Bool) → (a && b) ≡ true → (a ≡ true) × (b ≡ true)
 both_true true b h = (refl, h)
 both_true false b h = absurd (false≢true h)
 
+-- contexts in which no name is that of a member
+abbrev pub Memberless : World → Type 0
+Memberless w = (c : Contexts w) × NoMembers c
+
 -- what is shown of a node
 pub record Makes (a : Making) (m : Meaning) : Type 0 where
-  pub value : {w : World} (c : Contexts w) → a.only ≡ true → Drops w (m.value (first c))
-  pub elements : {w : World} (c : Contexts w) → a.only ≡ true → Drops w (m.elements (first c))
-  pub typed : {w : World} (c : Contexts w) → a.named ≡ true → Drops w (m.reference (first c) >>= λ r. read_typed (first c) r)
+  pub value : {w : World} (c : Memberless w) → a.only ≡ true → Drops w (m.value (first c.0))
+  pub elements : {w : World} (c : Memberless w) → a.only ≡ true → Drops w (m.elements (first c.0))
+  pub typed : {w : World} (c : Memberless w) → a.named ≡ true → Drops w (m.reference (first c.0) >>= λ r. read_typed (first c.0) r)
   pub made : {w : World} (x : ExecutionContext) (sort : Sort) (home : Option ℕ) → Drops w (m.made sort home x)
 
 abbrev Child : Type 0
@@ -55,37 +59,37 @@ new_array_drops es = new_object_drops _
 
 -- ---- lists
 
-all_elements_drops : {w : World} (c : Contexts w) (ps : List Child) → all_only (makings ps) ≡ true → Drops w (all_elements (meanings ps) (first c))
+all_elements_drops : {w : World} (c : Memberless w) (ps : List Child) → all_only (makings ps) ≡ true → Drops w (all_elements (meanings ps) (first c.0))
 all_elements_drops c [] h = give_drops []
 all_elements_drops c (p ∷ ps) h =
     let t = both_true (making p.0).only (all_only (makings ps)) h in drops_bind (p.1.elements c t.0) (λ vs. drops_bind (all_elements_drops c ps t.1) (λ ws. give_drops (vs ++ ws)))
 
-sequence_drops : {w : World} (c : Contexts w) (ps : List Child) → all_only (makings ps) ≡ true → Drops w (sequence (meanings ps) (first c))
+sequence_drops : {w : World} (c : Memberless w) (ps : List Child) → all_only (makings ps) ≡ true → Drops w (sequence (meanings ps) (first c.0))
 sequence_drops c [] h = outside_drops
 sequence_drops c (p ∷ []) h = p.1.value c (both_true (making p.0).only true h).0
 sequence_drops c (p ∷ q ∷ ps) h = let t = both_true (making p.0).only (all_only (makings (q ∷ ps))) h in drops_bind (p.1.value c t.0) (λ _. sequence_drops c (q ∷ ps) t.1)
 
 -- ---- functions, in a record of their own
 
-function_value_dropped : {w : World} (c : Contexts w) (names : List Id) (function : Child) {s s' : State} → States w s s' → Dropped w s' (function_value names (meaning function.0) (first c) s)
+function_value_dropped : {w : World} (c : Memberless w) (names : List Id) (function : Child) {s s' : State} → States w s s' → Dropped w s' (function_value names (meaning function.0) (first c.0) s)
 function_value_dropped c names function {s} {s'} st =
-    (drops_bind (function.1.made (inside (first c) (record { place = length s.environments; ids = ids_of (map (empty true) names) })) Plain None) (λ f.
+    (drops_bind (function.1.made (inside (first c.0) (record { place = length s.environments; ids = ids_of (map (empty true) names) })) Plain None) (λ f.
     drops_bind (set_all_drops names (length s.environments) (Own f) (next_record_free st)) (λ _. give_drops (Own f)))).at (made_record st _)
 
-function_value_drops : {w : World} (c : Contexts w) (names : List Id) (function : Child) → Drops w (function_value names (meaning function.0) (first c))
+function_value_drops : {w : World} (c : Memberless w) (names : List Id) (function : Child) → Drops w (function_value names (meaning function.0) (first c.0))
 function_value_drops c names function = record { at = λ st. function_value_dropped c names function st }
 
 -- ---- operators
 
-unary_drops : {w : World} (c : Contexts w) (op : UnaryOp) (operand : Child) → unary_only op (making operand.0) ≡ true → Drops w (unary op (meaning operand.0) (first c))
+unary_drops : {w : World} (c : Memberless w) (op : UnaryOp) (operand : Child) → unary_only op (making operand.0) ≡ true → Drops w (unary op (meaning operand.0) (first c.0))
 unary_drops c operator.Delete operand h = absurd (false≢true h)
 unary_drops c operator.TypeOf operand h = typed_drops operand.1 c h
   where
-    typed_drops : {w : World} {a : Making} {m : Meaning} → Makes a m → (c : Contexts w) → a.named ≡ true → Drops w (m.reference (first c) >>= λ r. read_typed (first c) r >>= λ v. type_of v)
-    typed_drops {m = m} p c h = drops_together (m.reference (first c)) (λ r. read_typed (first c) r) type_of (drops_bind (p.typed c h) (λ v. type_of_drops v))
+    typed_drops : {w : World} {a : Making} {m : Meaning} → Makes a m → (c : Memberless w) → a.named ≡ true → Drops w (m.reference (first c.0) >>= λ r. read_typed (first c.0) r >>= λ v. type_of v)
+    typed_drops {m = m} p c h = drops_together (m.reference (first c.0)) (λ r. read_typed (first c.0) r) type_of (drops_bind (p.typed c h) (λ v. type_of_drops v))
 unary_drops c op operand h = drops_bind (operand.1.value c h) (λ v. given_drops (unary_value op v))
 
-rest_drops : {w : World} (c : Contexts w) (op : BinaryOp) (o : Option Bool) (v : Value) (right : Child) → (making right.0).only ≡ true → Drops w (binary_rest op o v (meaning right.0) (first c))
+rest_drops : {w : World} (c : Memberless w) (op : BinaryOp) (o : Option Bool) (v : Value) (right : Child) → (making right.0).only ≡ true → Drops w (binary_rest op o v (meaning right.0) (first c.0))
 rest_drops c op (Some true) v right h = give_drops v
 rest_drops c op (Some false) v right h = right.1.value c h
 rest_drops c op None v right h = drops_bind (right.1.value c h) (λ u. applied_drops op v u)
@@ -93,8 +97,8 @@ rest_drops c op None v right h = drops_bind (right.1.value c h) (λ u. applied_d
 -- ---- by kind
 
 module _ (n : Node) where
-  value_drops : {w : World} (c : Contexts w) (k : Kind) (ps : List Child) → only_by k (makings ps) ≡ true → Drops w (value_of n k (meanings ps) (first c))
-  value_drops c (kind.Ident sym ctxt optional) [] h = identifier_drops c sym ctxt
+  value_drops : {w : World} (c : Memberless w) (k : Kind) (ps : List Child) → only_by k (makings ps) ≡ true → Drops w (value_of n k (meanings ps) (first c.0))
+  value_drops c (kind.Ident sym ctxt optional) [] h = identifier_drops c.0 c.1 sym ctxt
   value_drops c (kind.Ident sym ctxt optional) (p ∷ ps) h = outside_drops
   value_drops c (kind.Str text raw) [] h = give_drops _
   value_drops c (kind.Str text raw) (p ∷ ps) h = outside_drops
@@ -104,7 +108,7 @@ module _ (n : Node) where
   value_drops c (kind.Bool truth) (p ∷ ps) h = outside_drops
   value_drops c kind.Null [] h = give_drops _
   value_drops c kind.Null (p ∷ ps) h = outside_drops
-  value_drops c kind.ThisExpr [] h = this_drops c
+  value_drops c kind.ThisExpr [] h = this_drops c.0
   value_drops c kind.ThisExpr (p ∷ ps) h = outside_drops
   value_drops c (kind.Regex pattern' flags) [] h = drops_bind new_regular_expression_drops (λ o. give_drops (Own o))
   value_drops c (kind.Regex pattern' flags) (p ∷ ps) h = outside_drops
@@ -112,7 +116,7 @@ module _ (n : Node) where
   value_drops c kind.FnExpr [] h = outside_drops
   value_drops c kind.FnExpr (p ∷ []) h = outside_drops
   value_drops c kind.FnExpr (p ∷ q ∷ r ∷ ps) h = outside_drops
-  value_drops c (kind.ArrowExpr is_async false) ps h = drops_bind (make_function_drops n Arrow None (first c)) (λ f. give_drops (Own f))
+  value_drops c (kind.ArrowExpr is_async false) ps h = drops_bind (make_function_drops n Arrow None (first c.0)) (λ f. give_drops (Own f))
   value_drops c (kind.ArrowExpr is_async true) ps h = outside_drops
   value_drops c kind.ArrayLit (elements ∷ []) h = drops_bind (elements.1.elements c (both_true (making elements.0).only true h).0) (λ es. drops_bind (new_array_drops es) (λ o. give_drops (Own o)))
   value_drops c kind.ArrayLit [] h = outside_drops
@@ -144,14 +148,14 @@ module _ (n : Node) where
   value_drops c kind.TsSatisfiesExpr ps h = outside_drops
   value_drops c _ ps h = absurd (false≢true h)
 
-  elements_drops : {w : World} (c : Contexts w) (k : Kind) (ps : List Child) → only_by k (makings ps) ≡ true → Drops w (elements_of n k (meanings ps) (first c))
+  elements_drops : {w : World} (c : Memberless w) (k : Kind) (ps : List Child) → only_by k (makings ps) ≡ true → Drops w (elements_of n k (meanings ps) (first c.0))
   elements_drops c kind.Absent ps h = give_drops _
   elements_drops c kind.List ps h = all_elements_drops c ps h
   elements_drops c (kind.TsTypeAliasDecl declare) ps h = give_drops []
   elements_drops c k ps h = drops_bind (value_drops c k ps h) (λ v. give_drops (Some v ∷ []))
 
-  typed_drops : {w : World} (c : Contexts w) (k : Kind) (ps : List Child) → named_by k (makings ps) ≡ true → Drops w (reference_of n k (meanings ps) (first c) >>= λ r. read_typed (first c) r)
-  typed_drops c (kind.Ident sym ctxt optional) [] h = typed_identifier_drops c sym ctxt
+  typed_drops : {w : World} (c : Memberless w) (k : Kind) (ps : List Child) → named_by k (makings ps) ≡ true → Drops w (reference_of n k (meanings ps) (first c.0) >>= λ r. read_typed (first c.0) r)
+  typed_drops c (kind.Ident sym ctxt optional) [] h = typed_identifier_drops c.0 c.1 sym ctxt
   typed_drops c kind.ParenExpr ps h = record { at = λ st. dropped_end }
   typed_drops c kind.TsAsExpr ps h = record { at = λ st. dropped_end }
   typed_drops c kind.TsTypeAssertion ps h = record { at = λ st. dropped_end }
@@ -205,6 +209,8 @@ module _ (n : Node) where
       either_makes (meaning source.0).is_required (record { only = false; named = false })
       (record { value = λ c h. absurd (false≢true h); elements = λ c h. absurd (false≢true h); typed = λ c h. absurd (false≢true h); made = λ x sort home. outside_drops })
       (record { value = λ c h. absurd (false≢true h); elements = λ c h. absurd (false≢true h); typed = λ c h. absurd (false≢true h); made = λ x sort home. outside_drops })
+  step_makes (kind.TsEnumDecl false is_const) (name ∷ members ∷ []) = record { value = λ c h. absurd (false≢true h); elements = λ c h. absurd (false≢true h); typed = λ c h. absurd (false≢true h); made = λ x sort home. outside_drops }
+  step_makes kind.TsEnumMember (name ∷ init ∷ []) = record { value = λ c h. absurd (false≢true h); elements = λ c h. absurd (false≢true h); typed = λ c h. absurd (false≢true h); made = λ x sort home. outside_drops }
   step_makes k ps = either_makes (has_no_effect k (meanings ps)) (record { only = only_by k (makings ps); named = named_by k (makings ps) }) (no_effect_makes (record { only = only_by k (makings ps); named = named_by k (makings ps) })) (role_makes k ps)
 
 -- ---- each node
@@ -219,5 +225,5 @@ makes : (n : Node) → Makes (making n) (meaning n)
 makes = ind-Node (λ n. Makes (making n) (meaning n)) (λ x y same. step x y.children (ap (λ z. z.children) same))
 
 -- what only makes may be dropped
-pub only_makes_drops : {w : World} (n : Node) → only_makes n ≡ true → (c : Contexts w) → Drops w ((meaning n).value (first c))
-only_makes_drops n is c = (makes n).value c is
+pub only_makes_drops : {w : World} (n : Node) → only_makes n ≡ true → (c : Contexts w) → NoMembers c → Drops w ((meaning n).value (first c))
+only_makes_drops n is c none = (makes n).value (c, none) is

@@ -1,32 +1,37 @@
 -- A node is done alike where its children are, and so are calls.
 use Rattle.std.proofs.Common.{◌≡◌, refl, sym, ap, ◌∙◌, subst, ℕ, zero, suc, List, [], ◌∷◌, map, Option, Some, None, Bool, true, false, cond, codes}
+use Rattle.ecma_enums.specs.declared.value.TsEnumRecordValue.{TsEnumRecordValue}
 use Rattle.ecma_kind.specs.declared.kind.Kind.{Kind}
 use Rattle.ecma_kind.specs.declared.kind.Kind.TheVariants as kind
 use Rattle.ecma_kind.specs.declared.operators.AssignOp.TheVariants.{Assign}
+use Rattle.ecma_kind.specs.declared.operators.BinaryOp.TheVariants.{LogicalOr}
 use Rattle.ecma_kind.specs.declared.operators.VarDeclKind.TheVariants.{Var, Let, Const}
 use Rattle.ecma_tree.specs.declared.node.Node.{Node, Node-F, roll-Node, ind-Node}
 use Rattle.ecma_runs.specs.declared.shown.ErrorKind.TheVariants as error
 use Rattle.ecma_runs.specs.Values.{Value, Undefined}
 use Rattle.ecma_runs.specs.State.{Id, default_name, Binding, Activation, Entered, Sort, Plain, Method, Arrow, BaseClass, DerivedClass, Closure, State}
-use Rattle.ecma_runs.specs.Run.{TurnsSpent, Run, ◌>>=◌, returned_by}
+use Rattle.ecma_runs.specs.Run.{TurnsSpent, Run, ◌>>=◌, give, returned_by}
+use Rattle.ecma_runs.specs.Environment.{Reference}
+use Rattle.ecma_runs.specs.Enums.{as_value}
 use Rattle.ecma_runs.specs.Host.{Provided}
 use Rattle.ecma_runs.specs.Meaning.{Invocation, Functions, Known, inside, Evaluation, Meaning}
 use Rattle.ecma_runs.specs.Declarations.{lexicals_of, vars_of, locals_of, imported_of, imported_from, imported_as, all_lexicals, all_vars, all_imported, has_no_effect}
 use Rattle.ecma_runs.specs.Classes.{body_of}
-use Rattle.ecma_runs.specs.Evaluation.{in_record, as_it_is, called_with, called_block, completed_of, role_by, ending_chain, no_effect, free_meaning, text_key, constant_meaning, set_export, meaning_by, meaning, entered, or_object, this_of, or_this, construct_base, invoked, class_fields, fields_by, invoke_closure, fields_of_closure, no_fields, fields_with, functions_with, apply_at, calls, invoke}
+use Rattle.ecma_runs.specs.Evaluation.{in_record, as_it_is, called_with, called_block, completed_of, role_by, ending_chain, no_effect, free_meaning, text_key, constant_meaning, set_export, variable_reference, write_of, variable_meaning, value_meaning, set_by, known_member, is_known_text, member_value, set_member_by, member_by, member_meaning, leaves_out, members_meaning, called_function, enum_part_by, enum_meaning, meaning_by, meaning, entered, or_object, this_of, or_this, construct_base, invoked, class_fields, fields_by, invoke_closure, fields_of_closure, no_fields, fields_with, functions_with, apply_at, calls, invoke}
 use Rattle.ecma_runs.proofs.Layer.{meaning-roll}
 use Rattle.ecma_run_places.specs.Worlds.{Each, no_more, Maybe, neither, both, Paired, World, Above, Same, is, Objects, Like, undefineds, owns, hosts, errors, LikeBinding, LikeEntered, entered_like, Scopes, LikeClosure, closures_like, objects_like, LikeActivation, arguments_of_activation, States}
-use Rattle.ecma_run_places.specs.Alike.{Alike, Outcomes, Likes, MaybeObjects, to_frees, LikeInvocation, calls_like, constructions_like, FunctionsAlike, Contexts, first, second, MeansAlike}
-use Rattle.ecma_run_places.proofs.Growing.{above, value_up, values_up, place_up, later}
+use Rattle.ecma_run_places.specs.Alike.{Alike, Outcomes, Likes, MaybeObjects, LikeReference, to_frees, LikeInvocation, calls_like, constructions_like, FunctionsAlike, Contexts, first, second, MeansAlike}
+use Rattle.ecma_run_places.proofs.Growing.{above, itself, value_up, values_up, reference_up, place_up, later}
 use Rattle.ecma_run_places.proofs.Combinators.{Keeps, keeps_alike, here_bind, here_bind_same, bind, bind_same, throw_kept, outside_kept, give_alike, throw_alike, stop_alike, outside_alike, when_alike, given_same, given_or_kept, returned_alike}
 use Rattle.ecma_run_places.proofs.Host.{each_append, spend_kept}
 use Rattle.ecma_run_places.proofs.Building.{LikeNew, new_unbound, new_given}
-use Rattle.ecma_run_places.proofs.Records.{empties_like, undefineds_like, imports_like, new_environment_alike, enter, inward, activation_at_kept}
+use Rattle.ecma_run_places.proofs.Records.{empties_like, undefineds_like, unfilleds_like, imports_like, fill_kept, resolved_kept, new_environment_alike, enter, inward, activation_at_kept}
 use Rattle.ecma_run_places.proofs.Objects.{new_object_alike, closure_at_like}
-use Rattle.ecma_run_places.proofs.Functions.{read_alike, pass_function_alike, prototype_for_kept}
-use Rattle.ecma_run_places.proofs.Expressions.{Part, meanings, value_alike, reference_alike, chain_alike, test_alike, initial_alike, link_alike, arguments_alike, elements_alike, texts_alike, key_alike}
+use Rattle.ecma_run_places.proofs.Functions.{read_alike, write_alike, pass_function_alike, prototype_for_kept}
+use Rattle.ecma_run_places.proofs.EnumReads.{as_value_like}
+use Rattle.ecma_run_places.proofs.Expressions.{Part, meanings, value_alike, reference_alike, written_alike, chain_alike, test_alike, initial_alike, link_alike, arguments_alike, elements_alike, texts_alike, key_alike}
 use Rattle.ecma_run_places.proofs.Patterns.{assigned_alike, targets_alike, matched_alike, bound_alike, parameters_alike}
-use Rattle.ecma_run_places.proofs.Statements.{completion_alike, last_alike, varied_alike, hoisted_alike, caught_alike, effect_alike, switched_alike, selected_alike}
+use Rattle.ecma_run_places.proofs.Statements.{completion_alike, members_alike, last_alike, varied_alike, hoisted_alike, caught_alike, effect_alike, switched_alike, selected_alike}
 use Rattle.ecma_run_places.proofs.Classes.{made_alike, default_made_alike, items_alike, body_alike, code_alike, enter_fields, class_made_alike, defined_alike, fields_alike, statics_alike}
 
 -- ---- variables that are declared hold nothing of a state
@@ -66,6 +71,7 @@ lexicals_like (kind.ImportDecl false) (specifiers ∷ source ∷ attributes ∷ 
 lexicals_like (kind.FnDecl false) (name ∷ function ∷ []) = empties_like false name.0.names
 lexicals_like (kind.ClassDecl false) (name ∷ class ∷ []) = empties_like false name.0.names
 lexicals_like kind.SwitchCase (test ∷ statements ∷ []) = statements.1.lexicals
+lexicals_like (kind.TsEnumDecl false is_const) (name ∷ members ∷ []) = unfilleds_like name.0.names
 lexicals_like kind.ExportDecl (declaration ∷ []) = declaration.1.lexicals
 lexicals_like kind.ExportDefaultExpr (e ∷ []) = empties_like false (default_name ∷ [])
 lexicals_like kind.ExportDefaultDecl (declaration ∷ []) = empties_like false declaration.0.default_names
@@ -139,6 +145,7 @@ pub role_alike : (node : Node) (k : Kind) (ps : List Part) → MeansAlike (role_
 role_alike node k ps = record {
   value = λ c. value_alike node c k ps;
   reference = λ c. reference_alike node c k ps;
+  written = λ c. written_alike node c k ps;
   assigned = λ c h. assigned_alike node c h k ps;
   initial = λ c. initial_alike node c k ps;
   arguments = λ c. arguments_alike node c k ps;
@@ -152,6 +159,7 @@ role_alike node k ps = record {
   targets = λ c q. targets_alike c k ps q;
   parameters = λ c qs. parameters_alike c k ps qs;
   completion = λ c. completed_alike node c k ps;
+  member = λ c leaves_out ids. members_alike c k ps leaves_out ids;
   varied = λ c. varied_alike c k ps;
   hoisted = λ c. hoisted_alike c k ps;
   last = λ c. last_alike c k ps;
@@ -178,6 +186,7 @@ ending_alike : (m : Meaning) → MeansAlike m → MeansAlike (ending_chain m)
 ending_alike m h = record {
   value = h.value;
   reference = h.reference;
+  written = h.written;
   assigned = h.assigned;
   initial = h.initial;
   arguments = h.arguments;
@@ -191,6 +200,7 @@ ending_alike m h = record {
   targets = h.targets;
   parameters = h.parameters;
   completion = h.completion;
+  member = h.member;
   varied = h.varied;
   hoisted = h.hoisted;
   last = h.last;
@@ -222,6 +232,7 @@ free_alike : (node : Node) (name : List ℕ) → MeansAlike (free_meaning node n
 free_alike node name = let h = absent_alike node in record {
   value = λ c. read_alike c (to_frees {name = name});
   reference = λ c. give_alike (to_frees {name = name});
+  written = h.written;
   assigned = h.assigned;
   initial = h.initial;
   arguments = h.arguments;
@@ -235,6 +246,7 @@ free_alike node name = let h = absent_alike node in record {
   targets = h.targets;
   parameters = h.parameters;
   completion = h.completion;
+  member = h.member;
   varied = h.varied;
   hoisted = h.hoisted;
   last = h.last;
@@ -261,6 +273,7 @@ text_key_alike : (node : Node) (name : Meaning) → MeansAlike (text_key node na
 text_key_alike node name = let h = absent_alike node in record {
   value = h.value;
   reference = h.reference;
+  written = h.written;
   assigned = h.assigned;
   initial = h.initial;
   arguments = h.arguments;
@@ -274,6 +287,7 @@ text_key_alike node name = let h = absent_alike node in record {
   targets = h.targets;
   parameters = h.parameters;
   completion = h.completion;
+  member = h.member;
   varied = h.varied;
   hoisted = h.hoisted;
   last = h.last;
@@ -311,6 +325,148 @@ set_export_alike : (node : Node) (name value : Part) → MeansAlike (set_export 
 set_export_alike node name value =
     role_alike node (kind.AssignExpr Assign) (role node kind.MemberExpr ((free_meaning node (codes "exports"), free_alike node (codes "exports")) ∷ (text_key node name.0, text_key_alike node name.0) ∷ []) ∷ value ∷ [])
 
+-- a meaning of which some roles are others
+others_alike : (m : Meaning) → MeansAlike m → {value : Evaluation Value} {reference : Evaluation Reference} {assigned : Run Value → Evaluation Value} {completion : Evaluation (Unit {0})} {member : Bool → List Id → Evaluation (Unit {0})}
+    → ((w : World) (c : Contexts w) → Alike w Like (value (first c)) (value (second c))) → ((w : World) (c : Contexts w) → Alike w LikeReference (reference (first c)) (reference (second c)))
+    → ((w : World) (c : Contexts w) (get get' : Run Value) → ((v : World) → Above w v → Alike v Like get get') → Alike w Like (assigned get (first c)) (assigned get' (second c)))
+    → ((w : World) (c : Contexts w) → Alike w Same (completion (first c)) (completion (second c)))
+    → ((w : World) (c : Contexts w) (leaves_out : Bool) (ids : List Id) → Alike w Same (member leaves_out ids (first c)) (member leaves_out ids (second c)))
+    → MeansAlike (record m { value = value; reference = reference; assigned = assigned; completion = completion; member = member })
+others_alike m h value reference assigned completion member = record {
+  value = λ c. value _ c;
+  reference = λ c. reference _ c;
+  written = h.written;
+  assigned = λ c gets. assigned _ c _ _ gets;
+  initial = h.initial;
+  arguments = h.arguments;
+  elements = h.elements;
+  texts = h.texts;
+  key = h.key;
+  chain = h.chain;
+  link = h.link;
+  bound = h.bound;
+  matched = h.matched;
+  targets = h.targets;
+  parameters = h.parameters;
+  completion = λ c. completion _ c;
+  member = λ c leaves_out ids. member _ c leaves_out ids;
+  varied = h.varied;
+  hoisted = h.hoisted;
+  last = h.last;
+  effect = h.effect;
+  test = h.test;
+  caught = h.caught;
+  switched = h.switched;
+  selected = h.selected;
+  made = h.made;
+  default_made = h.default_made;
+  class_made = h.class_made;
+  defined = h.defined;
+  fields = h.fields;
+  statics = h.statics;
+  code = h.code;
+  body = h.body;
+  lexicals = h.lexicals;
+  vars = h.vars;
+  locals = h.locals;
+  imported = h.imported;
+}
+
+-- ---- enums
+
+module _ (node : Node) where
+  variable_kept : (ids : List Id) {w : World} (c : Contexts w) → Keeps w LikeReference (variable_reference ids (first c)) (variable_reference ids (second c))
+  variable_kept [] c = outside_kept
+  variable_kept (id ∷ ids) c = resolved_kept c.scopes c.known.declared id
+
+  write_alike' : (ids : List Id) {w : World} (c : Contexts w) {get get' : Run Value} → ((v : World) → Above w v → Alike v Like get get')
+      → Alike w Like (write_of (variable_reference ids) get (first c)) (write_of (variable_reference ids) get' (second c))
+  write_alike' ids {w} c h = here_bind (variable_kept ids c) (λ _ _ r. bind (h w itself) (λ v u _ _ q. bind_same (write_alike (later u c) (reference_up u r) q) (λ v' u' _. give_alike (value_up u' q))))
+
+  variable_alike : (ids : List Id) → MeansAlike (variable_meaning node ids)
+  variable_alike ids =
+      let h = absent_alike node in
+      others_alike (role_by node kind.Absent []) h (λ w c. here_bind (variable_kept ids c) (λ _ _ r. read_alike c r)) (λ w c. keeps_alike (variable_kept ids c)) (λ w c get get' gets. write_alike' ids c gets)
+          (λ w c. h.completion c) (λ w c. h.member c)
+
+  -- an expression with a value
+  valued_alike : (value : Evaluation Value) → ((w : World) (c : Contexts w) → Alike w Like (value (first c)) (value (second c))) → MeansAlike (value_meaning node value)
+  valued_alike value gives = let h = absent_alike node in others_alike (role_by node kind.Absent []) h gives (λ w c. h.reference c) (λ w c get get' gets. h.assigned c gets) (λ w c. h.completion c) (λ w c. h.member c)
+
+  abbrev variable_part : List Id → Part
+  variable_part ids = (variable_meaning node ids, variable_alike ids)
+
+  abbrev text_part : List ℕ → Part
+  text_part text = role node (kind.Str text None) []
+
+  abbrev member_part : Part → Part → Part
+  member_part object e = role node kind.MemberExpr (object ∷ role node kind.ComputedPropName (e ∷ []) ∷ [])
+
+  abbrev set_part : Part → Part → Part → Part
+  set_part object e v = role node (kind.AssignExpr Assign) (member_part object e ∷ v ∷ [])
+
+  set_alike : (is_text : Bool) (enum : Part) (text : List ℕ) (v : Part) → MeansAlike (set_by is_text node enum.0 text v.0)
+  set_alike true enum text v = (set_part enum (text_part text) v).1
+  set_alike false enum text v = (set_part enum (set_part enum (text_part text) v) (text_part text)).1
+
+  member_value_alike : (init : Part) (known : Option TsEnumRecordValue) → MeansAlike (member_value node init.0 known)
+  member_value_alike init None = valued_alike init.0.initial (λ w c. init.1.initial c)
+  member_value_alike init (Some v) = valued_alike (λ x. give (as_value v)) (λ w c. give_alike (as_value_like v))
+
+  set_member_alike : (ids : List Id) (text : List ℕ) (known : Option TsEnumRecordValue) (init : Part) {w : World} (c : Contexts w)
+      → Alike w Same (set_member_by node ids text known init.0 (first c)) (set_member_by node ids text known init.0 (second c))
+  set_member_alike ids text known init c =
+      let value : Part = (member_value node init.0 known, member_value_alike init known) in
+      let set : Part = (set_by (is_known_text known) node (variable_meaning node ids) text value.0, set_alike (is_known_text known) (variable_part ids) text value) in
+      (role_alike node kind.ExprStmt (set ∷ [])).completion c
+
+  member_by_alike : (init : Part) (o : Option (List ℕ)) {w : World} (c : Contexts w) (leaves_out : Bool) (ids : List Id)
+      → Alike w Same (member_by node leaves_out ids init.0 o (first c)) (member_by node leaves_out ids init.0 o (second c))
+  member_by_alike init None c leaves_out ids = outside_alike
+  member_by_alike init (Some text) c leaves_out ids = when_alike refl (give_alike is) (set_member_alike ids text (known_member c.known.enums ids text) init c)
+
+  member_alike : (name init : Part) → MeansAlike (member_meaning node name.0 init.0)
+  member_alike name init =
+      let h = role_alike node kind.TsEnumMember (name ∷ init ∷ []) in
+      others_alike (role_by node kind.TsEnumMember (name.0 ∷ init.0 ∷ [])) h (λ w c. h.value c) (λ w c. h.reference c) (λ w c get get' gets. h.assigned c gets) (λ w c. h.completion c)
+          (λ w c leaves_out ids. member_by_alike init name.0.text c leaves_out ids)
+
+  written_members_alike : (is_const : Bool) (ids : List Id) (members : Part) → MeansAlike (members_meaning node is_const ids members.0)
+  written_members_alike is_const ids members =
+      let h = role_alike node kind.List [] in
+      others_alike (role_by node kind.List []) h (λ w c. h.value c) (λ w c. h.reference c) (λ w c get get' gets. h.assigned c gets) (λ w c. members.1.member c (leaves_out is_const c.known.enums ids) ids) (λ w c. h.member c)
+
+  abbrev members_part : Bool → List Id → Part → Part
+  members_part is_const ids members = (members_meaning node is_const ids members.0, written_members_alike is_const ids members)
+
+  abbrev function_part : Bool → Part → List Id → Part → Part
+  function_part is_const name ids members =
+      role node (kind.Function false false)
+      (role node kind.List (role node kind.Param (role node kind.BindingIdent (name ∷ role node kind.Absent [] ∷ []) ∷ []) ∷ [])
+      ∷ role node kind.BlockStmt (members_part is_const ids members ∷ []) ∷ role node kind.Absent [] ∷ role node kind.Absent [] ∷ [])
+
+  abbrev object_part : List Id → Part
+  object_part ids =
+      role node (kind.BinExpr LogicalOr)
+      (variable_part ids ∷ role node (kind.AssignExpr Assign) (variable_part ids ∷ role node kind.ObjectLit (role node kind.List [] ∷ []) ∷ []) ∷ [])
+
+  called_function_alike : (function arguments : Part) {w : World} (c : Contexts w) → Alike w Same (called_function node function.0 arguments.0 (first c)) (called_function node function.0 arguments.0 (second c))
+  called_function_alike function arguments c =
+      bind (enter no_more) (λ v u _ _ e. bind (pass_function_alike node (inward (later u c) e)) (λ v' u' _ _ f. bind (arguments.1.arguments (later (above u u') c)) (λ v'' u'' _ _ vs. here_bind_same spend_kept (λ _.
+      bind (in_record_alike (later (above u' u'') (inward (later u c) e)) (empties_like false function.0.parameter_names) (both (called_like undefineds (u''.objects _ _ f) neither _ _)) (new_given vs)
+      (function.0.code _) (function.0.code _) (λ z y d. function.1.code d (values_up y vs)) (as_it_is_alike (later (above u' u'') (inward (later u c) e)))) (λ _ _ _ _ _. give_alike is)))))
+
+  part_alike : (is_const : Bool) (name : Part) (ids : List Id) (texts : List (List ℕ)) (members : Part) {w : World} (c : Contexts w)
+      → Alike w Same (enum_part_by node is_const name.0 ids texts members.0 (first c)) (enum_part_by node is_const name.0 ids texts members.0 (second c))
+  part_alike is_const name ids texts members c =
+      here_bind_same (fill_kept c.scopes ids) (λ _. when_alike refl (give_alike is) (called_function_alike (function_part is_const name ids members) (role node kind.List (object_part ids ∷ [])) c))
+
+  enum_alike : (is_const : Bool) (name members : Part) → MeansAlike (enum_meaning node is_const name.0 members.0)
+  enum_alike is_const name members =
+      let h = role_alike node (kind.TsEnumDecl false is_const) (name ∷ members ∷ []) in
+      others_alike (role_by node (kind.TsEnumDecl false is_const) (name.0 ∷ members.0 ∷ [])) h (λ w c. h.value c) (λ w c. h.reference c) (λ w c get get' gets. h.assigned c gets)
+          (λ w c. part_alike is_const name name.0.names members.0.member_texts members c) (λ w c. h.member c)
+
 kind_alike : (node : Node) (k : Kind) (ps : List Part) → MeansAlike (cond (has_no_effect k (meanings ps)) (no_effect node) (role_by node k (meanings ps)))
 kind_alike node k ps = either_alike (has_no_effect k (meanings ps)) (role_alike node (kind.TsTypeAliasDecl false) []) (role_alike node k ps)
 
@@ -330,6 +486,8 @@ step_alike node (kind.TsImportEqualsDecl false false) (name ∷ source ∷ []) =
 step_alike node (kind.TsImportEqualsDecl true false) (name ∷ source ∷ []) =
     either_alike source.0.is_required (constant_alike node name (set_export node name.0 source.0, set_export_alike node name source))
     (role_alike node kind.ExportDecl ((constant_meaning node name.0 source.0, constant_alike node name source) ∷ []))
+step_alike node (kind.TsEnumDecl false is_const) (name ∷ members ∷ []) = enum_alike node is_const name members
+step_alike node kind.TsEnumMember (name ∷ init ∷ []) = member_alike node name init
 step_alike node k ps = kind_alike node k ps
 
 -- nodes that are done alike

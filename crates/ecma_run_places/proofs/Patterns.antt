@@ -7,7 +7,7 @@ use Rattle.ecma_runs.specs.declared.shown.ErrorKind.TheVariants as error
 use Rattle.ecma_runs.specs.Values.{Value}
 use Rattle.ecma_runs.specs.Run.{Run, ◌>>=◌, give}
 use Rattle.ecma_runs.specs.Functions.{write, first_or_undefined, all_but_first}
-use Rattle.ecma_runs.specs.Expressions.{reference_of}
+use Rattle.ecma_runs.specs.Expressions.{written_of}
 use Rattle.ecma_runs.specs.Patterns.{or_default, assigned_of, all_targets, targets_of, all_matched, matched_of, bound_of, all_parameters, parameters_of}
 use Rattle.ecma_run_places.specs.Worlds.{World, Above, Same, is, Like, errors}
 use Rattle.ecma_run_places.specs.Alike.{Alike, Likes, Contexts, first, second}
@@ -17,7 +17,7 @@ use Rattle.ecma_run_places.proofs.Records.{initialize_kept}
 use Rattle.ecma_run_places.proofs.Operators.{undefined_same, nullish_same}
 use Rattle.ecma_run_places.proofs.Members.{member_alike}
 use Rattle.ecma_run_places.proofs.Functions.{write_alike, first_like, others_like}
-use Rattle.ecma_run_places.proofs.Expressions.{Part, meanings, reference_alike}
+use Rattle.ecma_run_places.proofs.Expressions.{Part, meanings, written_alike}
 
 -- a run that gives a value, now and later
 abbrev pub Gives : World → Run Value → Run Value → Type 0
@@ -27,17 +27,17 @@ or_default_alike : {w : World} (c : Contexts w) (default : Part) {get get' : Run
 or_default_alike c default h = bind h (λ v u _ _ q. when_alike (undefined_same q) (default.1.initial (later u c)) (give_alike q))
 
 module _ (node : Node) where
-  written_alike : {w : World} (c : Contexts w) {get get' : Run Value} → Gives w get get' → (k : Kind) (ps : List Part)
-      → Alike w Like (reference_of node k (meanings ps) (first c) >>= λ r. get >>= λ v. write (first c) r v >>= λ _. give v) (reference_of node k (meanings ps) (second c) >>= λ r. get' >>= λ v. write (second c) r v >>= λ _. give v)
-  written_alike c h k ps =
-      bind (reference_alike node c k ps) (λ v u _ _ r. bind (h v u) (λ v' u' _ _ q. bind_same (write_alike (later (above u u') c) (reference_up u' r) q) (λ v'' u'' _. give_alike (value_up u'' q))))
+  gets_alike : {w : World} (c : Contexts w) {get get' : Run Value} → Gives w get get' → (k : Kind) (ps : List Part)
+      → Alike w Like (written_of node k (meanings ps) (first c) >>= λ r. get >>= λ v. write (first c) r v >>= λ _. give v) (written_of node k (meanings ps) (second c) >>= λ r. get' >>= λ v. write (second c) r v >>= λ _. give v)
+  gets_alike c h k ps =
+      bind (written_alike node c k ps) (λ v u _ _ r. bind (h v u) (λ v' u' _ _ q. bind_same (write_alike (later (above u u') c) (reference_up u' r) q) (λ v'' u'' _. give_alike (value_up u'' q))))
 
   pub assigned_alike : {w : World} (c : Contexts w) {get get' : Run Value} → Gives w get get' → (k : Kind) (ps : List Part)
       → Alike w Like (assigned_of node k (meanings ps) get (first c)) (assigned_of node k (meanings ps) get' (second c))
   assigned_alike {w} c h (kind.ObjectPat optional) (properties ∷ type ∷ []) =
       bind (h w itself) (λ v u _ _ q. bind_same (when_alike (nullish_same q) (throw_alike (errors error.Kind)) (properties.1.targets (later u c) q)) (λ v' u' _. give_alike (value_up u' q)))
   assigned_alike c h kind.AssignPat (target ∷ default ∷ []) = target.1.assigned c (λ v u. or_default_alike (later u c) default (h v u))
-  assigned_alike c h k ps = written_alike c h k ps
+  assigned_alike c h k ps = gets_alike c h k ps
 
 all_targets_alike : {w : World} (c : Contexts w) (ps : List Part) {v v' : Value} → Like w v v' → Alike w Same (all_targets (meanings ps) v (first c)) (all_targets (meanings ps) v' (second c))
 all_targets_alike c [] q = give_alike is

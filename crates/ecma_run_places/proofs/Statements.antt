@@ -1,13 +1,13 @@
 -- Statements and declarations do alike.
-use Rattle.std.proofs.Common.{refl, sym, subst, ℕ, zero, suc, List, [], ◌∷◌, Option, true, false, not, is_some, codes}
+use Rattle.std.proofs.Common.{refl, sym, subst, ℕ, zero, suc, List, [], ◌∷◌, Option, Bool, true, false, not, is_some, codes}
 use Rattle.ecma_kind.specs.declared.kind.Kind.{Kind}
 use Rattle.ecma_kind.specs.declared.kind.Kind.TheVariants as kind
 use Rattle.ecma_kind.specs.declared.operators.VarDeclKind.TheVariants.{Var, Let, Const}
 use Rattle.ecma_tree.specs.declared.node.Node.{Node}
 use Rattle.ecma_runs.specs.Values.{Value}
-use Rattle.ecma_runs.specs.State.{default_name, Entered, Plain, State}
+use Rattle.ecma_runs.specs.State.{Id, default_name, Entered, Plain, State}
 use Rattle.ecma_runs.specs.Run.{TurnsSpent, Run, give}
-use Rattle.ecma_runs.specs.Statements.{rounds, while, do_while, for_rounds, for_loop, block, all_completions, completion_of, all_last, last_of, effect_of, all_varied, varied_of, all_hoisted, hoisted_of, caught_of, all_cases, all_switched, switched_of, is_case_of, selected_of}
+use Rattle.ecma_runs.specs.Statements.{rounds, while, do_while, for_rounds, for_loop, block, all_completions, completion_of, all_last, last_of, effect_of, all_members, member_of, all_varied, varied_of, all_hoisted, hoisted_of, caught_of, all_cases, all_switched, switched_of, is_case_of, selected_of}
 use Rattle.ecma_run_places.specs.Worlds.{World, Above, Maybe, neither, both, Same, is, Like, owns, LikeEntered, States}
 use Rattle.ecma_run_places.specs.Alike.{Alike, Outcomes, to_frees, to_members, Contexts, first, second}
 use Rattle.ecma_run_places.proofs.Growing.{above, itself, maybe_up, value_up, entered_up, scopes_up, later}
@@ -69,6 +69,10 @@ all_completions_alike : {w : World} (c : Contexts w) (ps : List Part) → Alike 
 all_completions_alike c [] = give_alike is
 all_completions_alike c (p ∷ ps) = bind_same (p.1.completion c) (λ v u _. all_completions_alike (later u c) ps)
 
+all_members_alike : {w : World} (c : Contexts w) (leaves_out : Bool) (ids : List Id) (ps : List Part) → Alike w Same (all_members leaves_out ids (meanings ps) (first c)) (all_members leaves_out ids (meanings ps) (second c))
+all_members_alike c leaves_out ids [] = give_alike is
+all_members_alike c leaves_out ids (p ∷ ps) = bind_same (p.1.member c leaves_out ids) (λ v u _. all_members_alike (later u c) leaves_out ids ps)
+
 all_varied_alike : {w : World} (c : Contexts w) (ps : List Part) → Alike w Same (all_varied (meanings ps) (first c)) (all_varied (meanings ps) (second c))
 all_varied_alike c [] = give_alike is
 all_varied_alike c (p ∷ ps) = bind_same (p.1.varied c) (λ v u _. all_varied_alike (later u c) ps)
@@ -126,6 +130,12 @@ last_alike c kind.List ps = all_last_alike c ps
 last_alike c kind.TsExportAssignment (e ∷ []) =
     bind (read_object_alike c (to_frees {name = codes "module"})) (λ v u _ _ o. bind (e.1.value (later u c)) (λ v' u' _ _ q. write_alike (later (above u u') c) (to_members (value_up u' o)) q))
 last_alike c _ ps = give_alike is
+
+pub members_alike : {w : World} (c : Contexts w) (k : Kind) (ps : List Part) (leaves_out : Bool) (ids : List Id)
+    → Alike w Same (member_of k (meanings ps) leaves_out ids (first c)) (member_of k (meanings ps) leaves_out ids (second c))
+members_alike c kind.List ps leaves_out ids = all_members_alike c leaves_out ids ps
+members_alike c (kind.TsTypeAliasDecl declare) ps leaves_out ids = give_alike is
+members_alike c _ ps leaves_out ids = outside_alike
 
 pub varied_alike : {w : World} (c : Contexts w) (k : Kind) (ps : List Part) → Alike w Same (varied_of k (meanings ps) (first c)) (varied_of k (meanings ps) (second c))
 varied_alike c kind.List ps = all_varied_alike c ps

@@ -85,6 +85,7 @@ second c = record { functions = c.functions'; scope = c.scope'; provided = c.pro
 pub record MeansAlike (m : Meaning) : Type 0 where
   pub value : {w : World} (c : Contexts w) → Alike w Like (m.value (first c)) (m.value (second c))
   pub reference : {w : World} (c : Contexts w) → Alike w LikeReference (m.reference (first c)) (m.reference (second c))
+  pub written : {w : World} (c : Contexts w) → Alike w LikeReference (m.written (first c)) (m.written (second c))
   pub assigned : {w : World} (c : Contexts w) {get get' : Run Value} → ((v : World) → Above w v → Alike v Like get get') → Alike w Like (m.assigned get (first c)) (m.assigned get' (second c))
   pub initial : {w : World} (c : Contexts w) → Alike w Like (m.initial (first c)) (m.initial (second c))
   pub arguments : {w : World} (c : Contexts w) → Alike w Likes (m.arguments (first c)) (m.arguments (second c))
@@ -98,6 +99,7 @@ pub record MeansAlike (m : Meaning) : Type 0 where
   pub targets : {w : World} (c : Contexts w) {v v' : Value} → Like w v v' → Alike w Same (m.targets v (first c)) (m.targets v' (second c))
   pub parameters : {w : World} (c : Contexts w) {vs vs' : List Value} → Likes w vs vs' → Alike w Likes (m.parameters vs (first c)) (m.parameters vs' (second c))
   pub completion : {w : World} (c : Contexts w) → Alike w Same (m.completion (first c)) (m.completion (second c))
+  pub member : {w : World} (c : Contexts w) (leaves_out : Bool) (ids : List Id) → Alike w Same (m.member leaves_out ids (first c)) (m.member leaves_out ids (second c))
   pub varied : {w : World} (c : Contexts w) → Alike w Same (m.varied (first c)) (m.varied (second c))
   pub hoisted : {w : World} (c : Contexts w) → Alike w Same (m.hoisted (first c)) (m.hoisted (second c))
   pub last : {w : World} (c : Contexts w) → Alike w Same (m.last (first c)) (m.last (second c))

@@ -1,5 +1,5 @@
 -- Places do not matter.
-use Rattle.std.specs.Prelude.{◌≡◌, ◌++◌, ℕ, List, IsTrue}
+use Rattle.std.specs.Prelude.{◌≡◌, ◌++◌, ℕ, List, [], IsTrue}
 use Rattle.ecma_tree.specs.declared.node.Node.{Node}
 use Rattle.ecma_runs.specs.Values.{Value}
 use Rattle.ecma_runs.specs.State.{Id, Environment, Object, State}
@@ -44,7 +44,7 @@ pub record NamesMayBeReadForNothing : Type 0 where
   pub free : {w : World} (c : Contexts w) (name : List ℕ) (s s' t : State) (v : Value) → States w s s' → read (first c) (ToFree name) s ≡ Done v t → States w t s'
   pub under_typeof : {w : World} (c : Contexts w) (name : List ℕ) (s s' t : State) (v : Value) → States w s s' → read_typed (first c) (ToFree name) s ≡ Done v t → States w t s'
 
--- so it is where an expression gives a value that only reads names and makes what nobody else has: it may be dropped, and what follows does the same
+-- so it is where an expression gives a value that only reads names and makes what nobody else has, and no name is that of a member of an enum: it may be dropped, and what follows does the same
 abbrev pub WhatOnlyMakesMayGo : Type 0
 WhatOnlyMakesMayGo =
-    (e : Node) (w : World) (c : Contexts w) (s s' t : State) (v : Value) → IsTrue (only_makes e) → States w s s' → (meaning e).value (first c) s ≡ Done v t → States w t s'
+    (e : Node) (w : World) (c : Contexts w) (s s' t : State) (v : Value) → c.known.enums.names ≡ [] → IsTrue (only_makes e) → States w s s' → (meaning e).value (first c) s ≡ Done v t → States w t s'

@@ -33,7 +33,7 @@ pub fn names_may_be_read_for_nothing()
 {}
 
 /// So an expression may be dropped that only reads names and makes what nobody else has, where it gives a value: one of names, literals, functions, arrays, `this` and operators on
-/// these, as `[[], function () {}]` and `typeof arguments`. All that follows does the same.
+/// these, as `[[], function () {}]` and `typeof arguments`. No name is that of a member of an enum. All that follows does the same.
 pub fn what_only_makes_may_go()
     ensures { WhatOnlyMakesMayGo }
 {}

@@ -6,11 +6,29 @@ use Rattle.ecma_runs.specs.Values.{Value}
 use Rattle.ecma_runs.specs.State.{Id, Entered, Environment, Closure, Callable, Code, Bound, Passed, Object, State}
 use Rattle.ecma_runs.specs.Run.{Stop, TurnsSpent, Outside, Outcome, Done, Thrown, Returned, Broken, Continued, Ended, Run, then_outcome, ◌>>=◌, give, throw, return, break, continue, stop, outside, when, given_or, given, each, catch_outcome, catching, finally_outcome, finally, round_outcome, round, loop_outcome, loop, body_outcome, returned_by, spend_of, spend}
 use Rattle.ecma_runs.specs.Environment.{is_among}
+use Rattle.ecma_runs.specs.Enums.{Enums, no_enums, reading}
 use Rattle.ecma_runs.specs.Meaning.{Known}
 use Rattle.ecma_runs.specs.Sought.{Sought, nothing_sought, Seeker, sought_in}
 use Rattle.ecma_runs.specs.Evaluation.{meaning}
 use Rattle.ecma_runs.proofs.Scopes.{AreThere, Stands, Opens}
 use Rattle.ecma_runs.proofs.Names.{Naming, Unless, unless_is, unless_map, changed_environment, kept_by}
+
+-- each name stays, host values and functions may be used, and what is passed over is so in the other run too
+pub record IsExact (names : Naming) (uses : Bool) (passed : Option (Node → Node)) : Type 0 where
+  pub plain : names.plain ≡ true
+  pub same : (id : Id) → names.to id ≡ id
+  pub all : (id : Id) → names.kept id ≡ true
+  pub used : uses ≡ true
+  pub nothing_passed : passed ≡ None
+
+-- what is known of the enums of a module, where functions keep other nodes, of which this is true: enums may stand in them, and then names stay; else nothing is known
+pub record EnumsStand (enums : Enums) (names : Naming) (uses : Bool) (passed : Option (Node → Node)) (node : Node → Node) (fine : Node → Type 0) : Type 0 where
+  pub has : Bool
+  pub may_change : Bool
+  pub lacking : has ≡ false → enums ≡ no_enums may_change
+  pub exact : has ≡ true → IsExact names uses passed
+  -- what is known of a read is known of its image
+  pub reads : (n : Node) → fine n → reading enums (node n) ≡ reading enums n
 
 -- how one run differs from another
 pub record Change : Type 1 where
@@ -42,6 +60,7 @@ pub record Change : Type 1 where
   pub uses : Bool
   pub said : List Event → Type 0
   pub adds : uses ≡ true → (events : List Event) (event : Event) → said events → said (events ++ event ∷ [])
+  pub enums : EnumsStand known.enums names uses passed node fine
 
 -- without turns, a run stops where it spends one
 pub spends_none : (more : ℕ) (b : Bool) → (more ≡ 0) ⊎ (b ≡ true) → (s : State) → Unless b (spend_of (0 + more) s ≡ Ended TurnsSpent s)

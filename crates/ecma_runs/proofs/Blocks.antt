@@ -36,7 +36,7 @@ module _ (c : Change) where
       rw is (enter_alike (at c a) (λ e. returned_by (λ _. Undefined) (code' (inside (second (at c a) w) e)) >>= λ v. finish e.place v) bindings o (λ e ids.
       bind_alike (at c (e ∷ a)) (returned_by_alike (at c (e ∷ a)) (λ _. Undefined) (h e ids)) (λ v. finishes (e ∷ a) e.place v)))
 
-  pass_function_alike : {a : List Entered} (w : World (at c a)) (n : Node) → c.passed ≡ None → Alike (at c a) (pass_function n (first (at c a) w)) (pass_function (c.node n) (second (at c a) w))
+  pub pass_function_alike : {a : List Entered} (w : World (at c a)) (n : Node) → c.passed ≡ None → Alike (at c a) (pass_function n (first (at c a) w)) (pass_function (c.node n) (second (at c a) w))
   pass_function_alike {a} w n none =
       bind_alike (at c a) (new_prototype_alike (at c a) None) (λ place.
       subst (λ z. Alike (at c a) (new_object (function_object (prototype_entries true place) None (Passed (closure_of n Plain None (first (at c a) w))))) (new_object (function_object (prototype_entries true place) None z)))

@@ -9,17 +9,20 @@ use Rattle.ecma_runs.specs.Values.{Value, Null, Own, Host, Error}
 use Rattle.ecma_runs.specs.Meaning.{inside}
 use Rattle.ecma_runs.specs.State.{Id, default_name, Entered, Binding, Sort, Plain, Method, Arrow, BaseClass, DerivedClass}
 use Rattle.ecma_runs.specs.Run.{◌>>=◌, give}
-use Rattle.ecma_runs.specs.Environment.{ids_of, resolved, empty, except, have_one_of}
+use Rattle.ecma_runs.specs.Environment.{ids_of, empty, except, have_one_of}
 use Rattle.ecma_runs.specs.Objects.{Calling, Function, BoundFunction, define_data, with_getter, with_setter}
 use Rattle.ecma_runs.specs.Functions.{read, first_or_undefined, new_function, prototype_entries}
 use Rattle.ecma_runs.specs.Classes.{class_in, made_of, default_made_of, body_of, run_body, run_code, all_code, class_code, code_of, checked_target, checked_calling, parent_class, parent_prototype, heritage, field_activation, class_value, class_made_of, define_method, sets_prototype, literal_key, all_defined, defined_of, define_field, field_with, all_fields, fields_of, all_statics, statics_of}
 use Rattle.ecma_runs.specs.Declarations.{all_shorthands, shorthands_of, locals_of, default_names_of}
-use Rattle.ecma_runs.proofs.Names.{changed_entered, changed_scope, changed_ids, changed_bindings, changed_bindings-append, except-changed}
+use Rattle.ecma_runs.proofs.Names.{changed_entered, changed_ids, changed_bindings, changed_bindings-append, except-changed}
 use Rattle.ecma_runs.specs.Sought.{meanings, all_sought, all_code_sought, sought_by_body, code_sought_of, sought_of, body_sought_of}
 use Rattle.ecma_runs.proofs.Names.{Unless, unless_is, unless_map, unless_both, EachTold, each_unless, among_first}
 use Rattle.ecma_runs.proofs.Scopes.{ids_of-empties, Opens, opened, nothing_opens, in_empty, body_stands, named_stand, not_caught, each_told, one, two, rest}
 use Rattle.ecma_runs.proofs.Alike.{Change, Standing, Alike, bind_by, bind_alike, give_alike, throw_alike, return_alike, outside_alike, when_alike}
-use Rattle.ecma_runs.proofs.Environments.{beside, Knows, enter_alike, set_all_alike, KeepTexts, resolved_alike}
+use Rattle.ecma_runs.proofs.Environments.{beside, Knows, enter_alike, set_all_alike, KeepTexts}
+use Rattle.ecma_runs.proofs.EnumReads.{named_alike}
+use Rattle.ecma_runs.specs.Enums.{enum_of}
+use Rattle.ecma_runs.specs.Expressions.{named}
 use Rattle.ecma_runs.proofs.Objects.{calling_at_alike, define_alike, define_data_alike, keep_field_keys_alike}
 use Rattle.ecma_runs.proofs.Meanings.{at, World, first, second, inward, later, newest, within, Both, seekers, firsts, seconds, empties}
 use Rattle.ecma_runs.proofs.Members.{prototype_property_alike}
@@ -219,8 +222,8 @@ module _ (c : Change) {a : List Entered} (w : World (at c a)) where
       → Alike (at c a) (defined_of n k (firsts c ps) class object (first (at c a) w)) (defined_of (c.node n) (renamed_kind c k) (seconds c ps) class object (second (at c a) w))
   defined_alike n fine (kind.Ident text ctxt optional) [] kept h texts class object =
       subst (λ z. Alike (at c a) (defined_of n (kind.Ident text ctxt optional) [] class object (first (at c a) w))
-      (resolved (changed_scope c.names w.scope) (changed_ids c.names c.known.declared) (c.names.to (record { sym = text; ctxt = ctxt })) >>= λ r. read (second (at c a) w) r >>= λ v. define_data object z v >>= λ _. give [])) (sym texts.0)
-      (bind_by (at c a) (λ r. read (second (at c a) w) r >>= λ v. define_data object text v >>= λ _. give []) (resolved_alike (at c a) w.scope w.there _ (not_caught c.names h.0.0 (record { sym = text; ctxt = ctxt }) (among_first (record { sym = text; ctxt = ctxt }) [])) kept.0)
+      (named (enum_of (c.names.to (record { sym = text; ctxt = ctxt })) c.known.enums.names) (c.names.to (record { sym = text; ctxt = ctxt })) (second (at c a) w) >>= λ r. read (second (at c a) w) r >>= λ v. define_data object z v >>= λ _. give [])) (sym texts.0)
+      (bind_by (at c a) (λ r. read (second (at c a) w) r >>= λ v. define_data object text v >>= λ _. give []) (named_alike c w _ (not_caught c.names h.0.0 (record { sym = text; ctxt = ctxt }) (among_first (record { sym = text; ctxt = ctxt }) [])) kept.0)
       (λ r p. bind_alike (at c a) (read_alike (at c a) w r p) (λ v. bind_alike (at c a) (define_data_alike (at c a) object text v) (λ _. give_alike (at c a) []))))
   defined_alike n fine kind.List ps kept h texts class object =
       all_stay c (λ ls ms'. Standing c w.scope (all_sought ls) → KeepTexts c (all_shorthands (meanings ls)) → Alike (at c a) (all_defined (meanings ls) class object (first (at c a) w)) (all_defined ms' class object (second (at c a) w)))

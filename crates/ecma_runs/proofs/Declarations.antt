@@ -6,15 +6,15 @@ use Rattle.ecma_kind.specs.declared.operators.VarDeclKind.TheVariants.{Var, Let,
 use Rattle.ecma_runs.specs.State.{Id, default_name}
 use Rattle.ecma_runs.specs.Exports.{Local, local_as, indirect_as}
 use Rattle.ecma_runs.proofs.Exports.{KeepsDefault, default_if, changed_exports, locals-changed, local_as-changed, indirect_as-changed}
-use Rattle.ecma_runs.specs.Environment.{ids_of, empty, undefined, import_of}
-use Rattle.ecma_runs.specs.Declarations.{all_names, names_of, name_or_default, default_names_of, all_imported, imported_as, imported_of, imported_from, text_of, all_lexicals, lexicals_of, all_vars, vars_of, locals_of, all_parameter_names, parameter_names_of, all_declared, declared_of, all_last_declared, last_declared_of, shorthands_of, all_cooked, cooked_of, all_plain, is_plain_of, is_computed_of, is_super_of, is_absent_of, is_required_of, is_this_of, all_types, is_type_of, has_body_of, any_constructor, is_constructor_of, has_no_effect, all_exports, exported_from, exports_of}
+use Rattle.ecma_runs.specs.Environment.{ids_of, empty, undefined, unfilled, import_of}
+use Rattle.ecma_runs.specs.Declarations.{all_names, names_of, name_or_default, default_names_of, all_imported, imported_as, imported_of, imported_from, text_of, all_lexicals, lexicals_of, all_vars, vars_of, locals_of, all_parameter_names, parameter_names_of, all_declared, declared_of, all_last_declared, last_declared_of, shorthands_of, all_cooked, cooked_of, all_plain, is_plain_of, is_computed_of, is_super_of, is_absent_of, is_required_of, is_this_of, all_types, is_type_of, has_body_of, any_constructor, is_constructor_of, has_no_effect, all_exports, exported_from, exports_of, all_member_texts, listed_text, member_texts_of}
 use Rattle.ecma_runs.specs.Sought.{meanings}
 use Rattle.ecma_runs.proofs.Names.{changed_ids, changed_bindings, changed_ids-append, ids_of-changed}
 use Rattle.ecma_runs.proofs.Alike.{Change}
 use Rattle.ecma_runs.proofs.Environments.{KeepTexts}
-use Rattle.ecma_runs.proofs.Meanings.{Both, firsts, seconds, empties, undefineds, imports}
+use Rattle.ecma_runs.proofs.Meanings.{Both, firsts, seconds, empties, undefineds, unfilleds, imports}
 use Rattle.ecma_runs.proofs.Premises.{renamed_kind, KeptLayer}
-use Rattle.ecma_runs.proofs.Lists.{all_stay, all_names_same, all_declared_same, all_last_declared_same, all_parameter_names_same, all_lexicals_same, all_vars_same, all_imported_same, all_exports_same, all_cooked_same, all_plain_same, all_types_same, any_constructor_same}
+use Rattle.ecma_runs.proofs.Lists.{all_stay, all_names_same, all_declared_same, all_last_declared_same, all_parameter_names_same, all_lexicals_same, all_vars_same, all_imported_same, all_exports_same, all_member_texts_same, all_cooked_same, all_plain_same, all_types_same, any_constructor_same}
 use Rattle.ecma_runs.proofs.Classes.{joined}
 
 module _ (c : Change) where
@@ -83,6 +83,7 @@ module _ (c : Change) where
   lexicals_same (kind.FnDecl false) (name ∷ function ∷ []) kept = ap (map (empty false)) name.2.names ∙ empties c false name.0.meaning.names
   lexicals_same (kind.ClassDecl false) (name ∷ class ∷ []) kept = ap (map (empty false)) name.2.names ∙ empties c false name.0.meaning.names
   lexicals_same kind.SwitchCase (test ∷ statements ∷ []) kept = statements.2.lexicals
+  lexicals_same (kind.TsEnumDecl false is_const) (name ∷ members ∷ []) kept = ap (map unfilled) name.2.names ∙ unfilleds c name.0.meaning.names
   lexicals_same kind.ExportDecl (declaration ∷ []) kept = declaration.2.lexicals
   lexicals_same kind.ExportDefaultExpr (e ∷ []) kept = rw (kept.0, kept.1) refl
   lexicals_same kind.ExportDefaultDecl (declaration ∷ []) kept = ap (map (empty false)) declaration.2.default_names ∙ empties c false declaration.0.meaning.default_names
@@ -181,6 +182,12 @@ module _ (c : Change) where
   last_declared_same kind.List ps = all_stay c (λ ls ms'. all_last_declared ms' ≡ changed_ids c.names (all_last_declared (meanings ls))) (all_last_declared_same c) ps
   last_declared_same kind.TsExportAssignment (e ∷ []) = e.2.declared
   last_declared_same _ ps = refl
+
+  -- the names of the members of an enum, where names keep their texts
+  pub member_texts_same : ((ids : List Id) → KeepTexts c ids) → c.enums.has ≡ true → (k : Kind) (ps : List (Both c)) → member_texts_of (renamed_kind c k) (seconds c ps) ≡ member_texts_of k (firsts c ps)
+  member_texts_same texts has kind.List ps = all_stay c (λ ls ms'. all_member_texts ms' ≡ all_member_texts (meanings ls)) (all_member_texts_same c has) ps
+  member_texts_same texts has kind.TsEnumMember (name ∷ init ∷ []) = ap listed_text (name.2.text (texts name.0.meaning.shorthands))
+  member_texts_same texts has _ ps = refl
 
   -- what else is known
 

@@ -11,14 +11,14 @@ use Rattle.ecma_runs.proofs.Names.{changed_known, changed_scope, changed_environ
 use Rattle.ecma_runs.proofs.Alike.{Change, changed, changed_callable, changed_object, FineCallable, AllFine, Follows, Alike}
 use Rattle.ecma_runs.proofs.Meanings.{at}
 use Rattle.ecma_runs.proofs.Kept.{StepsAlike, apply_at_alike, calls_alike}
-use Rattle.ecma_runs.proofs.Layers.{same_names, same_ids, same_known, same_bindings, Telling, images, nothing_excused, itself_layers, layers_alike}
+use Rattle.ecma_runs.proofs.Layers.{same_names, same_ids, same_known, same_bindings, Telling, exactly, images, nothing_excused, itself_layers, layers_alike}
 
 -- where no more turns are left than k
 abbrev within_turns : ℕ → Telling
 within_turns k = record { more = 0; before = []; excused = nothing_excused; turns_excused = inl refl; holds = λ n. n ≤ k; falls = λ n h. omega arith }
 
 abbrev below : ℕ → Known → Change
-below k known = images (λ n. n) known (within_turns k)
+below k known = images (λ n. n) known (within_turns k) (exactly (λ n. Unit {0}) (λ n. n) known (λ n. refl))
 
 same_environments : (es : List Environment) → map (changed_environment same_names) es ≡ es
 same_environments [] = refl
@@ -68,7 +68,7 @@ module _ (k : ℕ) (known : Known) where
   same_outcome (Ended why s) r' e = e.0 ∙ ap (Ended why) (same_state s)
 
   steps : StepsAlike (below k known)
-  steps = layers_alike (λ n. n) known (within_turns k) itself_layers
+  steps = layers_alike (λ n. n) known (within_turns k) (exactly (λ n. Unit {0}) (λ n. n) known (λ n. refl)) refl itself_layers
 
 -- no call is made without turns
 spent : (provided : Provided) (known : Known) (n place : ℕ) (how : Invocation) (arguments : List Value) (s : State) → s.turns ≡ 0 → calls provided known n place how arguments s ≡ Ended TurnsSpent s

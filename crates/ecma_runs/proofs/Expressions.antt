@@ -13,19 +13,21 @@ use Rattle.ecma_kind.specs.declared.operators.UnaryOp.TheVariants as operator
 use Rattle.ecma_kind.specs.declared.operators.UpdateOp.{UpdateOp}
 use Rattle.ecma_tree.specs.declared.node.Node.{Node}
 use Rattle.ecma_runs.specs.Values.{Value, Undefined, Null, Truth, Number, Text, Own, Host, Error, truth_of, is_nullish}
+use Rattle.ecma_runs.specs.Enums.{reading}
 use Rattle.ecma_runs.specs.Meaning.{inside}
 use Rattle.ecma_runs.specs.State.{Entered, Id, Plain, Arrow}
 use Rattle.ecma_runs.specs.Run.{Run, ◌>>=◌, give, given}
 use Rattle.ecma_runs.specs.Environment.{set_all, Reference, ToVariable, ToFree, ToMember, ToSuper, ToImportMeta, ToMetaMember, ToValue, empty}
 use Rattle.ecma_runs.specs.Operators.{text_from, number_from, key_from, binary_value, operator_of, short_circuit, logical_operator_of, unary_value, updated}
 use Rattle.ecma_runs.specs.Functions.{read, write, read_object, read_typed, delete, Callee, callee_by, call, construct}
-use Rattle.ecma_runs.specs.Expressions.{meta_member, member_of, member_reference, super_reference, chained, call_by, is_in, applied, binary_rest, logical_rest, compound_rest, assign, unary, update, sequence, interleaved, function_value, value_of, reference_of, continued, callee_is_nullish, member_link, call_link, link_of, chain_of, initial_of, all_arguments, arguments_of, all_elements, elements_of, all_texts, texts_of, key_of, test_of}
+use Rattle.ecma_runs.specs.Expressions.{known_reference, meta_member, member_of, member_reference, read_member, super_reference, chained, call_by, is_in, applied, binary_rest, logical_rest, compound_rest, assign, unary, update, sequence, interleaved, function_value, value_of, reference_of, written_of, continued, callee_is_nullish, member_link, call_link, link_of, chain_of, initial_of, all_arguments, arguments_of, all_elements, elements_of, all_texts, texts_of, key_of, test_of}
 use Rattle.ecma_runs.specs.Members.{type_of}
 use Rattle.ecma_runs.specs.Sought.{Seeker, meanings, all_sought, sought_of}
 use Rattle.ecma_runs.proofs.Names.{Unless, unless_is, unless_map, unless_both, among_first, changed_ids}
 use Rattle.ecma_runs.proofs.Scopes.{ids_of-empties, Opens, opened, nothing_opens, not_caught, each_told, one, two, three, rest}
 use Rattle.ecma_runs.proofs.Alike.{Change, Standing, Alike, bind_by, bind_alike, give_by, give_alike, throw_alike, outside_alike, when_alike, given_alike}
-use Rattle.ecma_runs.proofs.Environments.{beside, NotCaughtIn, enter_alike, set_all_alike, activation_alike, this_alike, changed_reference, KeptReference, AlikeReference, resolved_alike}
+use Rattle.ecma_runs.proofs.Environments.{beside, NotCaughtIn, enter_alike, set_all_alike, activation_alike, this_alike, changed_reference, KeptReference, AlikeReference}
+use Rattle.ecma_runs.proofs.EnumReads.{known_reference_alike, named_alike, written_name_alike}
 use Rattle.ecma_runs.proofs.Objects.{super_base_alike, new_object_alike, new_array_alike}
 use Rattle.ecma_runs.proofs.Meanings.{at, World, first, second, newest, within, KeptOption, AlikeChain, Both, seekers, firsts, seconds, empties}
 use Rattle.ecma_runs.proofs.Members.{has_member_alike, instance_of_alike, type_of_alike}
@@ -55,6 +57,12 @@ module _ (c : Change) {a : List Entered} (w : World (at c a)) where
 
   member_reference_alike : c.uses ≡ true → (object key : Both c) → Standing c w.scope object.0.seeks.sought → Standing c w.scope key.0.seeks.sought → AlikeReference d (member_reference object.0.meaning key.0.meaning (first d w)) (member_reference object.1 key.1 (second d w))
   member_reference_alike u object key s z = bind_by d (λ r. member_of (second d w) r (key.1.key (second d w))) (object.2.reference w s) (λ r kept. member_of_alike u r kept (key.2.key w z))
+
+  read_member_alike : (n : Node) → c.fine n → c.uses ≡ true → (object key : Both c) → Standing c w.scope object.0.seeks.sought → Standing c w.scope key.0.seeks.sought
+      → AlikeReference d (read_member n object.0.meaning key.0.meaning (first d w)) (read_member (c.node n) object.1 key.1 (second d w))
+  read_member_alike n fine u object key s z =
+      subst (λ r. AlikeReference d (read_member n object.0.meaning key.0.meaning (first d w)) (known_reference r (member_reference object.1 key.1) (second d w))) (sym (c.enums.reads n fine))
+      (known_reference_alike c w (reading c.known.enums n) (member_reference object.0.meaning key.0.meaning) (member_reference object.1 key.1) (member_reference_alike u object key s z))
 
   super_reference_alike : c.uses ≡ true → (key : Both c) → Standing c w.scope key.0.seeks.sought → AlikeReference d (super_reference key.0.meaning (first d w)) (super_reference key.1 (second d w))
   super_reference_alike u key s =
@@ -106,10 +114,10 @@ module _ (c : Change) {a : List Entered} (w : World (at c a)) where
   compound_rest_alike None None r kept v right s = outside_alike d
 
   compound_alike : (op : AssignOp) (target right : Both c) → Standing c w.scope target.0.seeks.sought → Standing c w.scope right.0.seeks.sought
-      → Alike d (target.0.meaning.reference (first d w) >>= λ r. read (first d w) r >>= λ v. compound_rest (logical_operator_of op) (operator_of op) r v right.0.meaning (first d w))
-      (target.1.reference (second d w) >>= λ r. read (second d w) r >>= λ v. compound_rest (logical_operator_of op) (operator_of op) r v right.1 (second d w))
+      → Alike d (target.0.meaning.written (first d w) >>= λ r. read (first d w) r >>= λ v. compound_rest (logical_operator_of op) (operator_of op) r v right.0.meaning (first d w))
+      (target.1.written (second d w) >>= λ r. read (second d w) r >>= λ v. compound_rest (logical_operator_of op) (operator_of op) r v right.1 (second d w))
   compound_alike op target right s z =
-      bind_by d (λ r. read (second d w) r >>= λ v. compound_rest (logical_operator_of op) (operator_of op) r v right.1 (second d w)) (target.2.reference w s)
+      bind_by d (λ r. read (second d w) r >>= λ v. compound_rest (logical_operator_of op) (operator_of op) r v right.1 (second d w)) (target.2.written w s)
       (λ r kept. bind_alike d (read_alike d w r kept) (λ v. compound_rest_alike (logical_operator_of op) (operator_of op) r kept v right z))
 
   assign_alike : (op : AssignOp) (target right : Both c) → Standing c w.scope target.0.seeks.sought → Standing c w.scope right.0.seeks.sought → Alike d (assign op target.0.meaning right.0.meaning (first d w)) (assign op target.1 right.1 (second d w))
@@ -118,13 +126,13 @@ module _ (c : Change) {a : List Entered} (w : World (at c a)) where
 
   unary_alike : (op : UnaryOp) (operand : Both c) → Standing c w.scope operand.0.seeks.sought → Alike d (unary op operand.0.meaning (first d w)) (unary op operand.1 (second d w))
   unary_alike operator.TypeOf operand s = bind_by d (λ r. read_typed (second d w) r >>= λ v. type_of v) (operand.2.reference w s) (λ r kept. bind_alike d (read_typed_alike d w r kept) (λ v. type_of_alike d v))
-  unary_alike operator.Delete operand s = bind_by d (λ r. delete r) (operand.2.reference w s) (λ r kept. delete_alike d r)
+  unary_alike operator.Delete operand s = bind_by d (λ r. delete r) (operand.2.written w s) (λ r kept. delete_alike d r)
   unary_alike op operand s = bind_alike d (operand.2.value w s) (λ v. given_alike d (unary_value op v))
 
   update_alike : (op : UpdateOp) (prefix : Bool) (operand : Both c) → Standing c w.scope operand.0.seeks.sought → Alike d (update op prefix operand.0.meaning (first d w)) (update op prefix operand.1 (second d w))
   update_alike op prefix operand s =
       bind_by d (λ r. read (second d w) r >>= λ v. given (number_from v) >>= λ old. given (updated op old) >>= λ new. write (second d w) r (Number new) >>= λ _. give (Number (cond prefix new old)))
-      (operand.2.reference w s) (λ r kept. bind_alike d (read_alike d w r kept) (λ v. bind_alike d (given_alike d (number_from v)) (λ old. bind_alike d (given_alike d (updated op old)) (λ new.
+      (operand.2.written w s) (λ r kept. bind_alike d (read_alike d w r kept) (λ v. bind_alike d (given_alike d (number_from v)) (λ old. bind_alike d (given_alike d (updated op old)) (λ new.
       bind_alike d (write_alike d w r kept (Number new)) (λ _. give_alike d (Number (cond prefix new old)))))))
 
   sequence_alike : (ps : List (Both c)) → Standing c w.scope (all_sought (seekers c ps)) → Alike d (sequence (firsts c ps) (first d w)) (sequence (seconds c ps) (second d w))
@@ -189,7 +197,7 @@ module _ (c : Change) {a : List Entered} (w : World (at c a)) where
 
   module _ (n : Node) (fine : c.fine n) where
     pub value_alike : (k : Kind) (ps : List (Both c)) → KeptLayer c k (firsts c ps) → PlacedNode c n w.scope k (seekers c ps) → Alike d (value_of n k (firsts c ps) (first d w)) (value_of (c.node n) (renamed_kind c k) (seconds c ps) (second d w))
-    value_alike (kind.Ident text ctxt optional) [] kept h = bind_by d (λ r. read (second d w) r) (resolved_alike d w.scope w.there _ (here_free n h.0.0) kept.0) (λ r p. read_alike d w r p)
+    value_alike (kind.Ident text ctxt optional) [] kept h = bind_by d (λ r. read (second d w) r) (named_alike c w _ (here_free n h.0.0) kept.0) (λ r p. read_alike d w r p)
     value_alike (kind.Str text raw) [] kept h = give_alike d (Text text)
     value_alike (kind.Number number raw) [] kept h = bind_alike d (given_alike d number) (λ n. give_alike d (Number n))
     value_alike (kind.Bool truth) [] kept h = give_alike d (Truth truth)
@@ -211,7 +219,7 @@ module _ (c : Change) {a : List Entered} (w : World (at c a)) where
     value_alike (kind.AssignExpr op) (target ∷ right ∷ []) kept h = assign_alike op target right (one c.names _ _ h.0.0) (two c.names _ _ _ h.0.0)
     value_alike kind.CondExpr (test ∷ yes' ∷ no' ∷ []) kept h = bind_alike d (test.2.value w (one c.names _ _ h.0.0)) (λ v. when_alike d (truth_of v) (yes'.2.value w (two c.names _ _ _ h.0.0)) (no'.2.value w (three c.names _ _ _ _ h.0.0)))
     value_alike kind.SeqExpr ps kept h = sequence_alike ps h.0.0
-    value_alike kind.MemberExpr (object ∷ key ∷ []) u h = bind_by d (λ r. read (second d w) r) (member_reference_alike u object key (one c.names _ _ h.0.0) (two c.names _ _ _ h.0.0)) (λ r p. read_alike d w r p)
+    value_alike kind.MemberExpr (object ∷ key ∷ []) u h = bind_by d (λ r. read (second d w) r) (read_member_alike n fine u object key (one c.names _ _ h.0.0) (two c.names _ _ _ h.0.0)) (λ r p. read_alike d w r p)
     value_alike kind.SuperPropExpr (super ∷ key ∷ []) u h = bind_by d (λ r. read (second d w) r) (super_reference_alike u key (two c.names _ _ _ h.0.0)) (λ r p. read_alike d w r p)
     value_alike kind.CallExpr (callee ∷ arguments ∷ types ∷ []) u h =
         subst (λ b. Alike d (call_by callee.0.meaning.is_super callee.0.meaning arguments.0.meaning (first d w)) (call_by b callee.1 arguments.1 (second d w))) (sym callee.2.is_super) (call_by_alike u callee.0.meaning.is_super callee arguments (one c.names _ _ h.0.0) (two c.names _ _ _ h.0.0))
@@ -228,13 +236,19 @@ module _ (c : Change) {a : List Entered} (w : World (at c a)) where
     as_value_alike k ps kept h = bind_alike d (value_alike k ps kept h) (λ v. give_by d (ToValue v) tt)
 
     pub reference_alike : (k : Kind) (ps : List (Both c)) → KeptLayer c k (firsts c ps) → PlacedNode c n w.scope k (seekers c ps) → AlikeReference d (reference_of n k (firsts c ps) (first d w)) (reference_of (c.node n) (renamed_kind c k) (seconds c ps) (second d w))
-    reference_alike (kind.Ident text ctxt optional) [] kept h = resolved_alike d w.scope w.there _ (here_free n h.0.0) kept.0
+    reference_alike (kind.Ident text ctxt optional) [] kept h = named_alike c w _ (here_free n h.0.0) kept.0
     reference_alike kind.BindingIdent (id ∷ annotation ∷ []) kept h = id.2.reference w (rest c.names _ _ h.0.0)
-    reference_alike kind.MemberExpr (object ∷ key ∷ []) u h = member_reference_alike u object key (one c.names _ _ h.0.0) (two c.names _ _ _ h.0.0)
+    reference_alike kind.MemberExpr (object ∷ key ∷ []) u h = read_member_alike n fine u object key (one c.names _ _ h.0.0) (two c.names _ _ _ h.0.0)
     reference_alike kind.SuperPropExpr (super ∷ key ∷ []) u h = super_reference_alike u key (two c.names _ _ _ h.0.0)
     reference_alike (kind.MetaPropExpr ImportMeta) [] kept h = give_by d ToImportMeta tt
     reference_alike (kind.OptChainExpr optional) (base ∷ []) kept h = chain_reference_alike optional base (one c.names _ _ h.0.0)
     reference_alike k ps kept h = as_value_alike k ps kept h
+
+    pub written_alike : (k : Kind) (ps : List (Both c)) → KeptLayer c k (firsts c ps) → PlacedNode c n w.scope k (seekers c ps) → AlikeReference d (written_of n k (firsts c ps) (first d w)) (written_of (c.node n) (renamed_kind c k) (seconds c ps) (second d w))
+    written_alike (kind.Ident text ctxt optional) [] kept h = written_name_alike c w _ (here_free n h.0.0) kept.0
+    written_alike kind.BindingIdent (id ∷ annotation ∷ []) kept h = id.2.written w (rest c.names _ _ h.0.0)
+    written_alike kind.MemberExpr (object ∷ key ∷ []) u h = member_reference_alike u object key (one c.names _ _ h.0.0) (two c.names _ _ _ h.0.0)
+    written_alike k ps kept h = reference_alike k ps kept h
 
     pub chain_alike : (k : Kind) (ps : List (Both c)) → KeptLayer c k (firsts c ps) → PlacedNode c n w.scope k (seekers c ps) → AlikeChain d (chain_of n k (firsts c ps) (first d w)) (chain_of (c.node n) (renamed_kind c k) (seconds c ps) (second d w))
     chain_alike (kind.OptChainExpr optional) (base ∷ []) kept h = base.2.link optional w (one c.names _ _ h.0.0)

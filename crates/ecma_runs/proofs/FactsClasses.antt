@@ -12,59 +12,72 @@ use Rattle.ecma_runs.specs.declared.observation.Ending.TheVariants as ending
 use Rattle.ecma_runs.specs.declared.script.Answer.TheVariants.{Return}
 use Rattle.ecma_runs.specs.declared.shown.ErrorKind.TheVariants as error
 use Rattle.ecma_runs.specs.declared.shown.Shown.TheVariants as shown
-use Rattle.ecma_runs.proofs.Trees.{End, ◌▸◌, tree, absent, ident, key, computed, binding, whole, string, this', super', member, super_member, call, new', assign, binary, parens, object, statement, block, returns, declare, parameter, function, declare_function, function_expression, arrow, class_method, field, constructor', class', declare_class, meaning_node}
-use Rattle.ecma_runs.proofs.Scripts.{Does, nulls}
+use Rattle.ecma_runs.proofs.Trees.{End, ◌▸◌, tree, absent, ident, key, computed, binding, whole, string, this', super', member, super_member, call, new', assign}
+use Rattle.ecma_runs.proofs.Trees.{binary, parens, object, statement, block, returns, declare, parameter, function}
+use Rattle.ecma_runs.proofs.Trees.{declare_function, function_expression, arrow, class_method, field, constructor', class', declare_class, meaning_node}
+use Rattle.ecma_runs.proofs.Scripts.{Does, does, nulls}
 use Rattle.std.specs.Fmt.{digits}
 
 -- class A { x = 1; m() { return this.x; } static s() { return 2; } } f(new A().m(), A.s(), new A() instanceof A);
 has_methods_and_fields :
     Does 9 nulls []
-    (declare_class (codes "A") absent (field false (key (codes "x")) (whole 1) ▸ class_method method.Method false (key (codes "m")) End (returns (member this' (codes "x")) ▸ End) ▸ class_method method.Method true (key (codes "s")) End (returns (whole 2) ▸ End) ▸ End)
-    ▸ statement (call (ident (codes "f")) (call (member (new' (ident (codes "A")) End) (codes "m")) End ▸ call (member (ident (codes "A")) (codes "s")) End ▸ binary binary.InstanceOf (new' (ident (codes "A")) End) (ident (codes "A")) ▸ End))
+    (declare_class (codes "A") absent (field false (key (codes "x")) (whole 1) ▸ class_method method.Method false (key (codes "m")) End (returns (member this' (codes "x")) ▸ End)
+    ▸ class_method method.Method true (key (codes "s")) End (returns (whole 2) ▸ End) ▸ End)
+    ▸ statement (call (ident (codes "f")) (call (member (new' (ident (codes "A")) End) (codes "m")) End ▸ call (member (ident (codes "A")) (codes "s")) End
+    ▸ binary binary.InstanceOf (new' (ident (codes "A")) End) (ident (codes "A")) ▸ End))
     ▸ End)
     (HostCall 7 shown.Undefined (shown.Num (js_number.Whole (pos 1)) ∷ shown.Num (js_number.Whole (pos 2)) ∷ shown.Bool true ∷ []) ∷ []) (ending.Done [])
-has_methods_and_fields = simp meaning_node refl
+has_methods_and_fields = does refl (simp meaning_node refl)
 
 -- class A { x = 1; constructor() { f(this.x); } } class B extends A { x = 2; } f(new B().x);
 has_fields_before_the_constructor :
     Does 9 nulls []
-    (declare_class (codes "A") absent (field false (key (codes "x")) (whole 1) ▸ constructor' End (statement (call (ident (codes "f")) (member this' (codes "x") ▸ End)) ▸ End) ▸ End)
+    (declare_class (codes "A") absent (field false (key (codes "x")) (whole 1) ▸ constructor' End (statement (call (ident (codes "f")) (member this' (codes "x") ▸ End)) ▸ End)
+    ▸ End)
     ▸ declare_class (codes "B") (ident (codes "A")) (field false (key (codes "x")) (whole 2) ▸ End)
     ▸ statement (call (ident (codes "f")) (member (new' (ident (codes "B")) End) (codes "x") ▸ End))
     ▸ End)
     (HostCall 7 shown.Undefined (shown.Num (js_number.Whole (pos 1)) ∷ []) ∷ HostCall 7 shown.Undefined (shown.Num (js_number.Whole (pos 2)) ∷ []) ∷ []) (ending.Done [])
-has_fields_before_the_constructor = simp meaning_node refl
+has_fields_before_the_constructor = does refl (simp meaning_node refl)
 
 -- class A extends (f(0), class {}) { [f(1)] = f(4); static [f(2)] = f(5); [f(3)]() {} } new A();
 defines_classes_in_order :
-    Does 9 (Return shown.Null ∷ Return (shown.Text (codes "a")) ∷ Return (shown.Text (codes "b")) ∷ Return (shown.Text (codes "c")) ∷ Return (shown.Num (js_number.Whole (pos 1))) ∷ Return (shown.Num (js_number.Whole (pos 2))) ∷ []) []
-    (declare_class (codes "A") (parens (tree kind.SeqExpr (call (ident (codes "f")) (whole 0 ▸ End) ▸ tree kind.ClassExpr (absent ▸ class' absent End ▸ End) ▸ End))) (field false (computed (call (ident (codes "f")) (whole 1 ▸ End))) (call (ident (codes "f")) (whole 4 ▸ End)) ▸ field true (computed (call (ident (codes "f")) (whole 2 ▸ End))) (call (ident (codes "f")) (whole 5 ▸ End)) ▸ class_method method.Method false (computed (call (ident (codes "f")) (whole 3 ▸ End))) End End ▸ End)
+    Does 9 (Return shown.Null ∷ Return (shown.Text (codes "a")) ∷ Return (shown.Text (codes "b")) ∷ Return (shown.Text (codes "c")) ∷ Return (shown.Num (js_number.Whole (pos 1)))
+    ∷ Return (shown.Num (js_number.Whole (pos 2))) ∷ []) []
+    (declare_class (codes "A") (parens (tree kind.SeqExpr (call (ident (codes "f")) (whole 0 ▸ End) ▸ tree kind.ClassExpr (absent ▸ class' absent End ▸ End)
+    ▸ End))) (field false (computed (call (ident (codes "f")) (whole 1 ▸ End))) (call (ident (codes "f")) (whole 4 ▸ End))
+    ▸ field true (computed (call (ident (codes "f")) (whole 2 ▸ End))) (call (ident (codes "f")) (whole 5 ▸ End))
+    ▸ class_method method.Method false (computed (call (ident (codes "f")) (whole 3 ▸ End))) End End ▸ End)
     ▸ statement (new' (ident (codes "A")) End)
     ▸ End)
-    (HostCall 7 shown.Undefined (shown.Num (js_number.Whole (pos 0)) ∷ []) ∷ HostCall 7 shown.Undefined (shown.Num (js_number.Whole (pos 1)) ∷ []) ∷ HostCall 7 shown.Undefined (shown.Num (js_number.Whole (pos 2)) ∷ []) ∷ HostCall 7 shown.Undefined (shown.Num (js_number.Whole (pos 3)) ∷ []) ∷ HostCall 7 shown.Undefined (shown.Num (js_number.Whole (pos 5)) ∷ []) ∷ HostCall 7 shown.Undefined (shown.Num (js_number.Whole (pos 4)) ∷ []) ∷ []) (ending.Done [])
-defines_classes_in_order = simp meaning_node refl
+    (HostCall 7 shown.Undefined (shown.Num (js_number.Whole (pos 0)) ∷ []) ∷ HostCall 7 shown.Undefined (shown.Num (js_number.Whole (pos 1)) ∷ [])
+    ∷ HostCall 7 shown.Undefined (shown.Num (js_number.Whole (pos 2)) ∷ []) ∷ HostCall 7 shown.Undefined (shown.Num (js_number.Whole (pos 3)) ∷ [])
+    ∷ HostCall 7 shown.Undefined (shown.Num (js_number.Whole (pos 5)) ∷ []) ∷ HostCall 7 shown.Undefined (shown.Num (js_number.Whole (pos 4)) ∷ []) ∷ []) (ending.Done [])
+defines_classes_in_order = does refl (simp meaning_node refl)
 
 -- let n = 0; class A { [++n] = n; } f(new A()[1], new A()[1]);
 evaluates_keys_of_fields_once :
     Does 9 nulls []
     (declare Let (codes "n") (whole 0)
     ▸ declare_class (codes "A") absent (field false (computed (tree (kind.UpdateExpr update.PlusPlus true) (ident (codes "n") ▸ End))) (ident (codes "n")) ▸ End)
-    ▸ statement (call (ident (codes "f")) (tree kind.MemberExpr (new' (ident (codes "A")) End ▸ computed (whole 1) ▸ End) ▸ tree kind.MemberExpr (new' (ident (codes "A")) End ▸ computed (whole 1) ▸ End) ▸ End))
+    ▸ statement (call (ident (codes "f")) (tree kind.MemberExpr (new' (ident (codes "A")) End ▸ computed (whole 1) ▸ End) ▸ tree kind.MemberExpr (new' (ident (codes "A")) End
+    ▸ computed (whole 1) ▸ End) ▸ End))
     ▸ End)
     (HostCall 7 shown.Undefined (shown.Num (js_number.Whole (pos 1)) ∷ shown.Num (js_number.Whole (pos 1)) ∷ []) ∷ []) (ending.Done [])
 unfolding digits
-evaluates_keys_of_fields_once = simp meaning_node refl
+evaluates_keys_of_fields_once = does refl (simp meaning_node refl)
 
 -- class A { static a = this === A; static b = A.a; } f(A.a, A.b); class B extends A {} f(B.a);
 has_static_members_of_itself :
     Does 9 nulls []
-    (declare_class (codes "A") absent (field true (key (codes "a")) (binary binary.EqEqEq this' (ident (codes "A"))) ▸ field true (key (codes "b")) (member (ident (codes "A")) (codes "a")) ▸ End)
+    (declare_class (codes "A") absent (field true (key (codes "a")) (binary binary.EqEqEq this' (ident (codes "A")))
+    ▸ field true (key (codes "b")) (member (ident (codes "A")) (codes "a")) ▸ End)
     ▸ statement (call (ident (codes "f")) (member (ident (codes "A")) (codes "a") ▸ member (ident (codes "A")) (codes "b") ▸ End))
     ▸ declare_class (codes "B") (ident (codes "A")) End
     ▸ statement (call (ident (codes "f")) (member (ident (codes "B")) (codes "a") ▸ End))
     ▸ End)
     (HostCall 7 shown.Undefined (shown.Bool true ∷ shown.Bool true ∷ []) ∷ HostCall 7 shown.Undefined (shown.Bool true ∷ []) ∷ []) (ending.Done [])
-has_static_members_of_itself = simp meaning_node refl
+has_static_members_of_itself = does refl (simp meaning_node refl)
 
 -- class A { static m() { return this; } } class B extends A { static m() { return super.m(); } } f(B.m() === B);
 has_super_members :
@@ -74,39 +87,44 @@ has_super_members :
     ▸ statement (call (ident (codes "f")) (binary binary.EqEqEq (call (member (ident (codes "B")) (codes "m")) End) (ident (codes "B")) ▸ End))
     ▸ End)
     (HostCall 7 shown.Undefined (shown.Bool true ∷ []) ∷ []) (ending.Done [])
-has_super_members = simp meaning_node refl
+has_super_members = does refl (simp meaning_node refl)
 
 -- class A { static get a() { return this.x; } } class B extends A { static x = 1; static get a() { return super.a + 1; } } f(B.a);
 gets_by_super :
     Does 9 nulls []
     (declare_class (codes "A") absent (class_method method.Getter true (key (codes "a")) End (returns (member this' (codes "x")) ▸ End) ▸ End)
-    ▸ declare_class (codes "B") (ident (codes "A")) (field true (key (codes "x")) (whole 1) ▸ class_method method.Getter true (key (codes "a")) End (returns (binary binary.Add (super_member (codes "a")) (whole 1)) ▸ End) ▸ End)
+    ▸ declare_class (codes "B") (ident (codes "A")) (field true (key (codes "x")) (whole 1)
+    ▸ class_method method.Getter true (key (codes "a")) End (returns (binary binary.Add (super_member (codes "a")) (whole 1)) ▸ End) ▸ End)
     ▸ statement (call (ident (codes "f")) (member (ident (codes "B")) (codes "a") ▸ End))
     ▸ End)
     (HostCall 7 shown.Undefined (shown.Num (js_number.Whole (pos 2)) ∷ []) ∷ []) (ending.Done [])
-gets_by_super = simp meaning_node refl
+gets_by_super = does refl (simp meaning_node refl)
 
 -- let o; class A { static set a(v) { f(v, this === o); } } class B extends A { static set a(v) { super.a = v; } } o = B; B.a = 2;
 sets_by_super :
     Does 9 nulls []
     (declare Let (codes "o") absent
-    ▸ declare_class (codes "A") absent (class_method method.Setter true (key (codes "a")) (parameter (binding (codes "v")) ▸ End) (statement (call (ident (codes "f")) (ident (codes "v") ▸ binary binary.EqEqEq this' (ident (codes "o")) ▸ End)) ▸ End) ▸ End)
-    ▸ declare_class (codes "B") (ident (codes "A")) (class_method method.Setter true (key (codes "a")) (parameter (binding (codes "v")) ▸ End) (statement (assign (super_member (codes "a")) (ident (codes "v"))) ▸ End) ▸ End)
+    ▸ declare_class (codes "A") absent (class_method method.Setter true (key (codes "a")) (parameter (binding (codes "v"))
+    ▸ End) (statement (call (ident (codes "f")) (ident (codes "v") ▸ binary binary.EqEqEq this' (ident (codes "o")) ▸ End)) ▸ End) ▸ End)
+    ▸ declare_class (codes "B") (ident (codes "A")) (class_method method.Setter true (key (codes "a")) (parameter (binding (codes "v"))
+    ▸ End) (statement (assign (super_member (codes "a")) (ident (codes "v"))) ▸ End) ▸ End)
     ▸ statement (assign (ident (codes "o")) (ident (codes "B")))
     ▸ statement (assign (member (ident (codes "B")) (codes "a")) (whole 2))
     ▸ End)
     (HostCall 7 shown.Undefined (shown.Num (js_number.Whole (pos 2)) ∷ shown.Bool true ∷ []) ∷ []) (ending.Done [])
-sets_by_super = simp meaning_node refl
+sets_by_super = does refl (simp meaning_node refl)
 
 -- class A {} class B extends A { m() { super.y = 5; return this.y; } } f(new B().m(), A.prototype.y);
 sets_super_on_this :
     Does 9 nulls []
     (declare_class (codes "A") absent End
-    ▸ declare_class (codes "B") (ident (codes "A")) (class_method method.Method false (key (codes "m")) End (statement (assign (super_member (codes "y")) (whole 5)) ▸ returns (member this' (codes "y")) ▸ End) ▸ End)
-    ▸ statement (call (ident (codes "f")) (call (member (new' (ident (codes "B")) End) (codes "m")) End ▸ member (member (ident (codes "A")) (codes "prototype")) (codes "y") ▸ End))
+    ▸ declare_class (codes "B") (ident (codes "A")) (class_method method.Method false (key (codes "m")) End (statement (assign (super_member (codes "y")) (whole 5))
+    ▸ returns (member this' (codes "y")) ▸ End) ▸ End)
+    ▸ statement (call (ident (codes "f")) (call (member (new' (ident (codes "B")) End) (codes "m")) End ▸ member (member (ident (codes "A")) (codes "prototype")) (codes "y")
+    ▸ End))
     ▸ End)
     (HostCall 7 shown.Undefined (shown.Num (js_number.Whole (pos 5)) ∷ shown.Undefined ∷ []) ∷ []) (ending.Done [])
-sets_super_on_this = simp meaning_node refl
+sets_super_on_this = does refl (simp meaning_node refl)
 
 -- let o = { m() { return super.x; } }; f(o.m());
 has_super_in_object_literals :
@@ -115,7 +133,7 @@ has_super_in_object_literals :
     ▸ statement (call (ident (codes "f")) (call (member (ident (codes "o")) (codes "m")) End ▸ End))
     ▸ End)
     (HostCall 7 shown.Undefined (shown.Undefined ∷ []) ∷ []) (ending.Done [])
-has_super_in_object_literals = simp meaning_node refl
+has_super_in_object_literals = does refl (simp meaning_node refl)
 
 -- class A {} class B extends A { constructor() { f(1); this; } } new B();
 wants_super_before_this :
@@ -125,7 +143,7 @@ wants_super_before_this :
     ▸ statement (new' (ident (codes "B")) End)
     ▸ End)
     (HostCall 7 shown.Undefined (shown.Num (js_number.Whole (pos 1)) ∷ []) ∷ []) (ending.Thrown (shown.Error error.Reference))
-wants_super_before_this = simp meaning_node refl
+wants_super_before_this = does refl (simp meaning_node refl)
 
 -- class A { constructor() { f(1); } } class B extends A { constructor() { super(); super(); } } new B();
 wants_super_once :
@@ -134,8 +152,9 @@ wants_super_once :
     ▸ declare_class (codes "B") (ident (codes "A")) (constructor' End (statement (call super' End) ▸ statement (call super' End) ▸ End) ▸ End)
     ▸ statement (new' (ident (codes "B")) End)
     ▸ End)
-    (HostCall 7 shown.Undefined (shown.Num (js_number.Whole (pos 1)) ∷ []) ∷ HostCall 7 shown.Undefined (shown.Num (js_number.Whole (pos 1)) ∷ []) ∷ []) (ending.Thrown (shown.Error error.Reference))
-wants_super_once = simp meaning_node refl
+    (HostCall 7 shown.Undefined (shown.Num (js_number.Whole (pos 1)) ∷ []) ∷ HostCall 7 shown.Undefined (shown.Num (js_number.Whole (pos 1)) ∷ [])
+    ∷ []) (ending.Thrown (shown.Error error.Reference))
+wants_super_once = does refl (simp meaning_node refl)
 
 -- class A {} class B extends A { constructor() { f(1); } } new B();
 wants_super_at_all :
@@ -145,7 +164,7 @@ wants_super_at_all :
     ▸ statement (new' (ident (codes "B")) End)
     ▸ End)
     (HostCall 7 shown.Undefined (shown.Num (js_number.Whole (pos 1)) ∷ []) ∷ []) (ending.Thrown (shown.Error error.Reference))
-wants_super_at_all = simp meaning_node refl
+wants_super_at_all = does refl (simp meaning_node refl)
 
 -- class A { constructor(a) { f(a); } } class B extends A { constructor() { (() => super(3))(); } } new B();
 calls_super_in_an_arrow :
@@ -155,27 +174,29 @@ calls_super_in_an_arrow :
     ▸ statement (new' (ident (codes "B")) End)
     ▸ End)
     (HostCall 7 shown.Undefined (shown.Num (js_number.Whole (pos 3)) ∷ []) ∷ []) (ending.Done [])
-calls_super_in_an_arrow = simp meaning_node refl
+calls_super_in_an_arrow = does refl (simp meaning_node refl)
 
 -- class A {} class B extends A { y = f(4); constructor() { (() => super())(); } } new B();
 has_fields_when_an_arrow_called_super :
     Does 9 nulls []
     (declare_class (codes "A") absent End
-    ▸ declare_class (codes "B") (ident (codes "A")) (field false (key (codes "y")) (call (ident (codes "f")) (whole 4 ▸ End)) ▸ constructor' End (statement (call (parens (arrow End (call super' End))) End) ▸ End) ▸ End)
+    ▸ declare_class (codes "B") (ident (codes "A")) (field false (key (codes "y")) (call (ident (codes "f")) (whole 4 ▸ End))
+    ▸ constructor' End (statement (call (parens (arrow End (call super' End))) End) ▸ End) ▸ End)
     ▸ statement (new' (ident (codes "B")) End)
     ▸ End)
     (HostCall 7 shown.Undefined (shown.Num (js_number.Whole (pos 4)) ∷ []) ∷ []) (ending.Done [])
-has_fields_when_an_arrow_called_super = simp meaning_node refl
+has_fields_when_an_arrow_called_super = does refl (simp meaning_node refl)
 
 -- class A { constructor(a, b) { f(a, b); } } class B extends A {} new B(1, 2);
 passes_arguments_on :
     Does 9 nulls []
-    (declare_class (codes "A") absent (constructor' (parameter (binding (codes "a")) ▸ parameter (binding (codes "b")) ▸ End) (statement (call (ident (codes "f")) (ident (codes "a") ▸ ident (codes "b") ▸ End)) ▸ End) ▸ End)
+    (declare_class (codes "A") absent (constructor' (parameter (binding (codes "a")) ▸ parameter (binding (codes "b"))
+    ▸ End) (statement (call (ident (codes "f")) (ident (codes "a") ▸ ident (codes "b") ▸ End)) ▸ End) ▸ End)
     ▸ declare_class (codes "B") (ident (codes "A")) End
     ▸ statement (new' (ident (codes "B")) (whole 1 ▸ whole 2 ▸ End))
     ▸ End)
     (HostCall 7 shown.Undefined (shown.Num (js_number.Whole (pos 1)) ∷ shown.Num (js_number.Whole (pos 2)) ∷ []) ∷ []) (ending.Done [])
-passes_arguments_on = simp meaning_node refl
+passes_arguments_on = does refl (simp meaning_node refl)
 
 -- let o = {}; class A { constructor() { return o; } } class B extends A { x = 1; } f(new B() === o, o.x);
 replaces_this_by_what_super_returns :
@@ -186,7 +207,7 @@ replaces_this_by_what_super_returns :
     ▸ statement (call (ident (codes "f")) (binary binary.EqEqEq (new' (ident (codes "B")) End) (ident (codes "o")) ▸ member (ident (codes "o")) (codes "x") ▸ End))
     ▸ End)
     (HostCall 7 shown.Undefined (shown.Bool true ∷ shown.Num (js_number.Whole (pos 1)) ∷ []) ∷ []) (ending.Done [])
-replaces_this_by_what_super_returns = simp meaning_node refl
+replaces_this_by_what_super_returns = does refl (simp meaning_node refl)
 
 -- class A {} A();
 does_not_call_classes :
@@ -195,7 +216,7 @@ does_not_call_classes :
     ▸ statement (call (ident (codes "A")) End)
     ▸ End)
     [] (ending.Thrown (shown.Error error.Kind))
-does_not_call_classes = simp meaning_node refl
+does_not_call_classes = does refl (simp meaning_node refl)
 
 -- class A extends (() => 1) {}
 extends_constructors_alone :
@@ -203,7 +224,7 @@ extends_constructors_alone :
     (declare_class (codes "A") (parens (arrow End (whole 1))) End
     ▸ End)
     [] (ending.Thrown (shown.Error error.Kind))
-extends_constructors_alone = simp meaning_node refl
+extends_constructors_alone = does refl (simp meaning_node refl)
 
 -- let k = (() => 1).bind(); k.prototype = {}; class A extends k {}
 extends_no_arrow_that_is_bound :
@@ -213,7 +234,7 @@ extends_no_arrow_that_is_bound :
     ▸ declare_class (codes "A") (ident (codes "k")) End
     ▸ End)
     [] (ending.Thrown (shown.Error error.Kind))
-extends_no_arrow_that_is_bound = simp meaning_node refl
+extends_no_arrow_that_is_bound = does refl (simp meaning_node refl)
 
 -- class A {} A.prototype = {};
 does_not_write_the_prototype_of_a_class :
@@ -222,7 +243,7 @@ does_not_write_the_prototype_of_a_class :
     ▸ statement (assign (member (ident (codes "A")) (codes "prototype")) (object End))
     ▸ End)
     [] (ending.Thrown (shown.Error error.Kind))
-does_not_write_the_prototype_of_a_class = simp meaning_node refl
+does_not_write_the_prototype_of_a_class = does refl (simp meaning_node refl)
 
 -- class A { static ["prototype"] = 1; }
 defines_no_static_prototype :
@@ -230,7 +251,7 @@ defines_no_static_prototype :
     (declare_class (codes "A") absent (field true (computed (string (codes "prototype"))) (whole 1) ▸ End)
     ▸ End)
     [] (ending.Thrown (shown.Error error.Kind))
-defines_no_static_prototype = simp meaning_node refl
+defines_no_static_prototype = does refl (simp meaning_node refl)
 
 -- class A { m() { A = 1; } } let B = A; new B().m();
 does_not_write_its_inner_name :
@@ -240,7 +261,7 @@ does_not_write_its_inner_name :
     ▸ statement (call (member (new' (ident (codes "B")) End) (codes "m")) End)
     ▸ End)
     [] (ending.Thrown (shown.Error error.Kind))
-does_not_write_its_inner_name = simp meaning_node refl
+does_not_write_its_inner_name = does refl (simp meaning_node refl)
 
 -- class A { [A]() {} }
 does_not_read_its_inner_name_before :
@@ -248,7 +269,7 @@ does_not_read_its_inner_name_before :
     (declare_class (codes "A") absent (class_method method.Method false (computed (ident (codes "A"))) End End ▸ End)
     ▸ End)
     [] (ending.Thrown (shown.Error error.Reference))
-does_not_read_its_inner_name_before = simp meaning_node refl
+does_not_read_its_inner_name_before = does refl (simp meaning_node refl)
 
 -- class A {} class B extends A { constructor() { super(); return 1; } } new B();
 has_no_value_of_another_sort :
@@ -258,39 +279,43 @@ has_no_value_of_another_sort :
     ▸ statement (new' (ident (codes "B")) End)
     ▸ End)
     [] (ending.Thrown (shown.Error error.Kind))
-has_no_value_of_another_sort = simp meaning_node refl
+has_no_value_of_another_sort = does refl (simp meaning_node refl)
 
 -- class A { constructor() { f(new.target === B, new.target === A); } } class B extends A {} new B(); new A();
 knows_the_new_target_of_super :
     Does 9 nulls []
-    (declare_class (codes "A") absent (constructor' End (statement (call (ident (codes "f")) (binary binary.EqEqEq (tree (kind.MetaPropExpr NewTarget) End) (ident (codes "B")) ▸ binary binary.EqEqEq (tree (kind.MetaPropExpr NewTarget) End) (ident (codes "A")) ▸ End)) ▸ End) ▸ End)
+    (declare_class (codes "A") absent (constructor' End (statement (call (ident (codes "f")) (binary binary.EqEqEq (tree (kind.MetaPropExpr NewTarget) End) (ident (codes "B"))
+    ▸ binary binary.EqEqEq (tree (kind.MetaPropExpr NewTarget) End) (ident (codes "A")) ▸ End)) ▸ End) ▸ End)
     ▸ declare_class (codes "B") (ident (codes "A")) End
     ▸ statement (new' (ident (codes "B")) End)
     ▸ statement (new' (ident (codes "A")) End)
     ▸ End)
     (HostCall 7 shown.Undefined (shown.Bool true ∷ shown.Bool false ∷ []) ∷ HostCall 7 shown.Undefined (shown.Bool false ∷ shown.Bool true ∷ []) ∷ []) (ending.Done [])
-knows_the_new_target_of_super = simp meaning_node refl
+knows_the_new_target_of_super = does refl (simp meaning_node refl)
 
 -- class A { static get a() { return 1; } set b(v) { f(v); } } f(A.a); new A().b = 2; new A().c = 3;
 has_getters_and_setters :
     Does 9 nulls []
-    (declare_class (codes "A") absent (class_method method.Getter true (key (codes "a")) End (returns (whole 1) ▸ End) ▸ class_method method.Setter false (key (codes "b")) (parameter (binding (codes "v")) ▸ End) (statement (call (ident (codes "f")) (ident (codes "v") ▸ End)) ▸ End) ▸ End)
+    (declare_class (codes "A") absent (class_method method.Getter true (key (codes "a")) End (returns (whole 1) ▸ End)
+    ▸ class_method method.Setter false (key (codes "b")) (parameter (binding (codes "v")) ▸ End) (statement (call (ident (codes "f")) (ident (codes "v") ▸ End)) ▸ End) ▸ End)
     ▸ statement (call (ident (codes "f")) (member (ident (codes "A")) (codes "a") ▸ End))
     ▸ statement (assign (member (new' (ident (codes "A")) End) (codes "b")) (whole 2))
     ▸ statement (assign (member (new' (ident (codes "A")) End) (codes "c")) (whole 3))
     ▸ End)
     (HostCall 7 shown.Undefined (shown.Num (js_number.Whole (pos 1)) ∷ []) ∷ HostCall 7 shown.Undefined (shown.Num (js_number.Whole (pos 2)) ∷ []) ∷ []) (ending.Done [])
-has_getters_and_setters = simp meaning_node refl
+has_getters_and_setters = does refl (simp meaning_node refl)
 
 -- class A { x; static y; z = new.target; } let a = new A(); f("x" in a, a.x, "y" in A, a.z);
 has_fields_without_value :
     Does 9 nulls []
-    (declare_class (codes "A") absent (field false (key (codes "x")) absent ▸ field true (key (codes "y")) absent ▸ field false (key (codes "z")) (tree (kind.MetaPropExpr NewTarget) End) ▸ End)
+    (declare_class (codes "A") absent (field false (key (codes "x")) absent ▸ field true (key (codes "y")) absent
+    ▸ field false (key (codes "z")) (tree (kind.MetaPropExpr NewTarget) End) ▸ End)
     ▸ declare Let (codes "a") (new' (ident (codes "A")) End)
-    ▸ statement (call (ident (codes "f")) (binary binary.In (string (codes "x")) (ident (codes "a")) ▸ member (ident (codes "a")) (codes "x") ▸ binary binary.In (string (codes "y")) (ident (codes "A")) ▸ member (ident (codes "a")) (codes "z") ▸ End))
+    ▸ statement (call (ident (codes "f")) (binary binary.In (string (codes "x")) (ident (codes "a")) ▸ member (ident (codes "a")) (codes "x")
+    ▸ binary binary.In (string (codes "y")) (ident (codes "A")) ▸ member (ident (codes "a")) (codes "z") ▸ End))
     ▸ End)
     (HostCall 7 shown.Undefined (shown.Bool true ∷ shown.Undefined ∷ shown.Bool true ∷ shown.Undefined ∷ []) ∷ []) (ending.Done [])
-has_fields_without_value = simp meaning_node refl
+has_fields_without_value = does refl (simp meaning_node refl)
 
 -- function h() { this.a = 1; } h.prototype.m = function () { return this.a; }; class B extends h {} f(new B().m());
 extends_plain_functions :
@@ -301,7 +326,7 @@ extends_plain_functions :
     ▸ statement (call (ident (codes "f")) (call (member (new' (ident (codes "B")) End) (codes "m")) End ▸ End))
     ▸ End)
     (HostCall 7 shown.Undefined (shown.Num (js_number.Whole (pos 1)) ∷ []) ∷ []) (ending.Done [])
-extends_plain_functions = simp meaning_node refl
+extends_plain_functions = does refl (simp meaning_node refl)
 
 -- class A { m() { return 1; } } class B extends A { x = super.m(); } f(new B().x);
 has_super_in_fields :
@@ -311,7 +336,7 @@ has_super_in_fields :
     ▸ statement (call (ident (codes "f")) (member (new' (ident (codes "B")) End) (codes "x") ▸ End))
     ▸ End)
     (HostCall 7 shown.Undefined (shown.Num (js_number.Whole (pos 1)) ∷ []) ∷ []) (ending.Done [])
-has_super_in_fields = simp meaning_node refl
+has_super_in_fields = does refl (simp meaning_node refl)
 
 -- class A { static s = 2; } class B extends A { static y = super.s; } f(B.y);
 has_super_in_static_fields :
@@ -321,7 +346,7 @@ has_super_in_static_fields :
     ▸ statement (call (ident (codes "f")) (member (ident (codes "B")) (codes "y") ▸ End))
     ▸ End)
     (HostCall 7 shown.Undefined (shown.Num (js_number.Whole (pos 2)) ∷ []) ∷ []) (ending.Done [])
-has_super_in_static_fields = simp meaning_node refl
+has_super_in_static_fields = does refl (simp meaning_node refl)
 
 -- class A { x = 1; h = () => this.x; } let h = new A().h; f(h());
 has_arrows_in_fields :
@@ -331,7 +356,7 @@ has_arrows_in_fields :
     ▸ statement (call (ident (codes "f")) (call (ident (codes "h")) End ▸ End))
     ▸ End)
     (HostCall 7 shown.Undefined (shown.Num (js_number.Whole (pos 1)) ∷ []) ∷ []) (ending.Done [])
-has_arrows_in_fields = simp meaning_node refl
+has_arrows_in_fields = does refl (simp meaning_node refl)
 
 -- class A { m() { return A; } } let B = A; A = 1; f(new B().m() === B, A);
 has_its_own_name_inside :
@@ -342,7 +367,7 @@ has_its_own_name_inside :
     ▸ statement (call (ident (codes "f")) (binary binary.EqEqEq (call (member (new' (ident (codes "B")) End) (codes "m")) End) (ident (codes "B")) ▸ ident (codes "A") ▸ End))
     ▸ End)
     (HostCall 7 shown.Undefined (shown.Bool true ∷ shown.Num (js_number.Whole (pos 1)) ∷ []) ∷ []) (ending.Done [])
-has_its_own_name_inside = simp meaning_node refl
+has_its_own_name_inside = does refl (simp meaning_node refl)
 
 -- class A {} class B extends A {} new B(); f(1); new B();
 spends_a_turn_a_constructor :
@@ -354,7 +379,7 @@ spends_a_turn_a_constructor :
     ▸ statement (new' (ident (codes "B")) End)
     ▸ End)
     (HostCall 7 shown.Undefined (shown.Num (js_number.Whole (pos 1)) ∷ []) ∷ []) (ending.TurnsSpent)
-spends_a_turn_a_constructor = simp meaning_node refl
+spends_a_turn_a_constructor = does refl (simp meaning_node refl)
 
 -- let o = { get a() { return 1; } }; f(o.a); f(o.a);
 spends_a_turn_a_getter :
@@ -364,4 +389,4 @@ spends_a_turn_a_getter :
     ▸ statement (call (ident (codes "f")) (member (ident (codes "o")) (codes "a") ▸ End))
     ▸ End)
     (HostCall 7 shown.Undefined (shown.Num (js_number.Whole (pos 1)) ∷ []) ∷ []) (ending.TurnsSpent)
-spends_a_turn_a_getter = simp meaning_node refl
+spends_a_turn_a_getter = does refl (simp meaning_node refl)

@@ -11,8 +11,10 @@ use Rattle.ecma_runs.specs.declared.observation.Event.TheVariants.{HostCall}
 use Rattle.ecma_runs.specs.declared.observation.Ending.TheVariants as ending
 use Rattle.ecma_runs.specs.declared.shown.ErrorKind.TheVariants as error
 use Rattle.ecma_runs.specs.declared.shown.Shown.TheVariants as shown
-use Rattle.ecma_runs.proofs.Trees.{End, ◌▸◌, tree, absent, list, ident, key, binding, whole, string, member, super_member, call, new', assign, unary, binary, object, statement, block, returns, declare, parameter, declare_function, class_method, constructor', declare_class, meaning_node}
-use Rattle.ecma_runs.proofs.Scripts.{Does, nulls}
+use Rattle.ecma_runs.proofs.Trees.{End, ◌▸◌, tree, absent, list, ident, key, binding, whole, string, member, super_member, call, new'}
+use Rattle.ecma_runs.proofs.Trees.{assign, unary, binary, object, statement, block, returns}
+use Rattle.ecma_runs.proofs.Trees.{declare, parameter, declare_function, class_method, constructor', declare_class, meaning_node}
+use Rattle.ecma_runs.proofs.Scripts.{Does, does, nulls}
 use Rattle.std.specs.Str.{chars}
 use Rattle.ecma_number.specs.Blanks.{front_trimmed, end_trimmed}
 use Rattle.ecma_number.specs.StringToNumber.{trimmed_text_number_of}
@@ -23,10 +25,11 @@ gives_what_derived_constructors_return :
     (declare_class (codes "A") absent End
     ▸ declare_class (codes "B") (ident (codes "A")) (constructor' (parameter (binding (codes "v")) ▸ End) (returns (ident (codes "v")) ▸ End) ▸ End)
     ▸ declare Let (codes "o") (object End)
-    ▸ statement (call (ident (codes "f")) (binary binary.EqEqEq (new' (ident (codes "B")) (ident (codes "o") ▸ End)) (ident (codes "o")) ▸ new' (ident (codes "B")) (ident (codes "f") ▸ End) ▸ End))
+    ▸ statement (call (ident (codes "f")) (binary binary.EqEqEq (new' (ident (codes "B")) (ident (codes "o") ▸ End)) (ident (codes "o"))
+    ▸ new' (ident (codes "B")) (ident (codes "f") ▸ End) ▸ End))
     ▸ End)
     (HostCall 7 shown.Undefined (shown.Bool true ∷ shown.Host 7 ∷ []) ∷ []) (ending.Done [])
-gives_what_derived_constructors_return = simp meaning_node refl
+gives_what_derived_constructors_return = does refl (simp meaning_node refl)
 
 -- function h() { f(new.target === h); } let k = h.bind(); k.prototype = {}; class B extends k {} new B();
 extends_bound_functions :
@@ -38,7 +41,7 @@ extends_bound_functions :
     ▸ statement (new' (ident (codes "B")) End)
     ▸ End)
     (HostCall 7 shown.Undefined (shown.Bool false ∷ []) ∷ []) (ending.Done [])
-extends_bound_functions = simp meaning_node refl
+extends_bound_functions = does refl (simp meaning_node refl)
 
 -- class A {} let k = A.bind(); k.prototype = {}; class B extends k {} f(1);
 extends_bound_classes :
@@ -50,7 +53,7 @@ extends_bound_classes :
     ▸ statement (call (ident (codes "f")) (whole 1 ▸ End))
     ▸ End)
     (HostCall 7 shown.Undefined (shown.Num (js_number.Whole (pos 1)) ∷ []) ∷ []) (ending.Done [])
-extends_bound_classes = simp meaning_node refl
+extends_bound_classes = does refl (simp meaning_node refl)
 
 -- class A {} class B extends A {} let k = B.bind(); class C extends k {} f(1);
 extends_bound_derived_classes :
@@ -62,7 +65,7 @@ extends_bound_derived_classes :
     ▸ statement (call (ident (codes "f")) (whole 1 ▸ End))
     ▸ End)
     (HostCall 7 shown.Undefined (shown.Num (js_number.Whole (pos 1)) ∷ []) ∷ []) (ending.Done [])
-extends_bound_derived_classes = simp meaning_node refl
+extends_bound_derived_classes = does refl (simp meaning_node refl)
 
 -- class A {} class B extends A {} class C extends B {} f(1);
 extends_derived_classes :
@@ -73,7 +76,7 @@ extends_derived_classes :
     ▸ statement (call (ident (codes "f")) (whole 1 ▸ End))
     ▸ End)
     (HostCall 7 shown.Undefined (shown.Num (js_number.Whole (pos 1)) ∷ []) ∷ []) (ending.Done [])
-extends_derived_classes = simp meaning_node refl
+extends_derived_classes = does refl (simp meaning_node refl)
 
 -- class A { m() { f(1); } } class B extends A { m() { super.m(); } } B.prototype.m();
 finds_super_members_of_instances_by_prototypes :
@@ -83,25 +86,27 @@ finds_super_members_of_instances_by_prototypes :
     ▸ statement (call (member (member (ident (codes "B")) (codes "prototype")) (codes "m")) End)
     ▸ End)
     (HostCall 7 shown.Undefined (shown.Num (js_number.Whole (pos 1)) ∷ []) ∷ []) (ending.Done [])
-finds_super_members_of_instances_by_prototypes = simp meaning_node refl
+finds_super_members_of_instances_by_prototypes = does refl (simp meaning_node refl)
 
 -- import * as n from "m"; try { n = f(1); } catch (e) { f(e); }
 writes_no_whole_module :
     Does 9 nulls []
     (tree (kind.ImportDecl false) (list (tree kind.ImportStarAsSpecifier (ident (codes "n") ▸ End) ▸ End) ▸ string (codes "m") ▸ absent ▸ End)
-    ▸ tree kind.TryStmt (block (statement (assign (ident (codes "n")) (call (ident (codes "f")) (whole 1 ▸ End))) ▸ End) ▸ tree kind.CatchClause (binding (codes "e") ▸ block (statement (call (ident (codes "f")) (ident (codes "e") ▸ End)) ▸ End) ▸ End) ▸ absent ▸ End)
+    ▸ tree kind.TryStmt (block (statement (assign (ident (codes "n")) (call (ident (codes "f")) (whole 1 ▸ End))) ▸ End) ▸ tree kind.CatchClause (binding (codes "e")
+    ▸ block (statement (call (ident (codes "f")) (ident (codes "e") ▸ End)) ▸ End) ▸ End) ▸ absent ▸ End)
     ▸ End)
     (HostCall 7 shown.Undefined (shown.Num (js_number.Whole (pos 1)) ∷ []) ∷ HostCall 7 shown.Undefined (shown.Error error.Kind ∷ []) ∷ []) (ending.Done [])
-writes_no_whole_module = simp meaning_node refl
+writes_no_whole_module = does refl (simp meaning_node refl)
 
 -- import { a } from "m"; f(a, typeof x);
 imports_no_types_by_name :
     Does 9 nulls []
-    (tree (kind.ImportDecl false) (list (tree (kind.ImportNamedSpecifier true) (ident (codes "x") ▸ absent ▸ End) ▸ tree (kind.ImportNamedSpecifier false) (ident (codes "a") ▸ absent ▸ End) ▸ End) ▸ string (codes "m") ▸ absent ▸ End)
+    (tree (kind.ImportDecl false) (list (tree (kind.ImportNamedSpecifier true) (ident (codes "x") ▸ absent ▸ End) ▸ tree (kind.ImportNamedSpecifier false) (ident (codes "a")
+    ▸ absent ▸ End) ▸ End) ▸ string (codes "m") ▸ absent ▸ End)
     ▸ statement (call (ident (codes "f")) (ident (codes "a") ▸ unary unary.TypeOf (ident (codes "x")) ▸ End))
     ▸ End)
     (HostCall 7 shown.Undefined (shown.Num (js_number.Whole (pos 5)) ∷ shown.Text (codes "undefined") ∷ []) ∷ []) (ending.Done [])
-imports_no_types_by_name = simp meaning_node refl
+imports_no_types_by_name = does refl (simp meaning_node refl)
 
 -- f(+"");
 casts_empty_texts :
@@ -110,4 +115,4 @@ casts_empty_texts :
     ▸ End)
     (HostCall 7 shown.Undefined (shown.Num (js_number.Whole (pos 0)) ∷ []) ∷ []) (ending.Done [])
 unfolding chars front_trimmed end_trimmed trimmed_text_number_of
-casts_empty_texts = simp meaning_node refl
+casts_empty_texts = does refl (simp meaning_node refl)

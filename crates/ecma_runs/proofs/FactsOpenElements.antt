@@ -6,7 +6,7 @@ use Rattle.ecma_runs.specs.declared.observation.Event.TheVariants.{HostCall}
 use Rattle.ecma_runs.specs.declared.observation.Ending.TheVariants as ending
 use Rattle.ecma_runs.specs.declared.shown.Shown.TheVariants as shown
 use Rattle.ecma_runs.proofs.Trees.{End, ◌▸◌, tree, absent, ident, computed, binding, whole, string, null, member, call, array, statement, block, declare_function, meaning_node}
-use Rattle.ecma_runs.proofs.Scripts.{Does, nulls}
+use Rattle.ecma_runs.proofs.Scripts.{Does, does, nulls}
 
 -- f(1); []["/"];
 keys_before_digits :
@@ -15,7 +15,7 @@ keys_before_digits :
     ▸ statement (tree kind.MemberExpr (array End ▸ computed (string (codes "/")) ▸ End))
     ▸ End)
     (HostCall 7 shown.Undefined (shown.Num (js_number.Whole (pos 1)) ∷ []) ∷ []) (ending.Outside)
-keys_before_digits = simp meaning_node refl
+keys_before_digits = does refl (simp meaning_node refl)
 
 -- f(1); [][":"];
 keys_behind_digits :
@@ -24,7 +24,7 @@ keys_behind_digits :
     ▸ statement (tree kind.MemberExpr (array End ▸ computed (string (codes ":")) ▸ End))
     ▸ End)
     (HostCall 7 shown.Undefined (shown.Num (js_number.Whole (pos 1)) ∷ []) ∷ []) (ending.Outside)
-keys_behind_digits = simp meaning_node refl
+keys_behind_digits = does refl (simp meaning_node refl)
 
 -- f(1); []["1a"];
 keys_with_letters :
@@ -33,7 +33,7 @@ keys_with_letters :
     ▸ statement (tree kind.MemberExpr (array End ▸ computed (string (codes "1a")) ▸ End))
     ▸ End)
     (HostCall 7 shown.Undefined (shown.Num (js_number.Whole (pos 1)) ∷ []) ∷ []) (ending.Outside)
-keys_with_letters = simp meaning_node refl
+keys_with_letters = does refl (simp meaning_node refl)
 
 -- f(1); []["01"];
 keys_with_zeros_before :
@@ -42,7 +42,7 @@ keys_with_zeros_before :
     ▸ statement (tree kind.MemberExpr (array End ▸ computed (string (codes "01")) ▸ End))
     ▸ End)
     (HostCall 7 shown.Undefined (shown.Num (js_number.Whole (pos 1)) ∷ []) ∷ []) (ending.Outside)
-keys_with_zeros_before = simp meaning_node refl
+keys_with_zeros_before = does refl (simp meaning_node refl)
 
 -- f(1); [][""];
 keys_without_text :
@@ -51,7 +51,7 @@ keys_without_text :
     ▸ statement (tree kind.MemberExpr (array End ▸ computed (string (codes "")) ▸ End))
     ▸ End)
     (HostCall 7 shown.Undefined (shown.Num (js_number.Whole (pos 1)) ∷ []) ∷ []) (ending.Outside)
-keys_without_text = simp meaning_node refl
+keys_without_text = does refl (simp meaning_node refl)
 
 -- f(1); []["1234567890"];
 keys_of_ten_digits :
@@ -60,7 +60,7 @@ keys_of_ten_digits :
     ▸ statement (tree kind.MemberExpr (array End ▸ computed (string (codes "1234567890")) ▸ End))
     ▸ End)
     (HostCall 7 shown.Undefined (shown.Num (js_number.Whole (pos 1)) ∷ []) ∷ []) (ending.Outside)
-keys_of_ten_digits = simp meaning_node refl
+keys_of_ten_digits = does refl (simp meaning_node refl)
 
 -- function h() {} f(1); h.apply(null, f);
 lists_of_apply_of_the_host :
@@ -70,13 +70,14 @@ lists_of_apply_of_the_host :
     ▸ statement (call (member (ident (codes "h")) (codes "apply")) (null ▸ ident (codes "f") ▸ End))
     ▸ End)
     (HostCall 7 shown.Undefined (shown.Num (js_number.Whole (pos 1)) ∷ []) ∷ []) (ending.Outside)
-lists_of_apply_of_the_host = simp meaning_node refl
+lists_of_apply_of_the_host = does refl (simp meaning_node refl)
 
 -- function h() {} try { null.a; } catch (e) { f(1); h.apply(null, e); }
 lists_of_apply_that_are_errors :
     Does 9 nulls []
     (declare_function (codes "h") End End
-    ▸ tree kind.TryStmt (block (statement (member null (codes "a")) ▸ End) ▸ tree kind.CatchClause (binding (codes "e") ▸ block (statement (call (ident (codes "f")) (whole 1 ▸ End)) ▸ statement (call (member (ident (codes "h")) (codes "apply")) (null ▸ ident (codes "e") ▸ End)) ▸ End) ▸ End) ▸ absent ▸ End)
+    ▸ tree kind.TryStmt (block (statement (member null (codes "a")) ▸ End) ▸ tree kind.CatchClause (binding (codes "e") ▸ block (statement (call (ident (codes "f")) (whole 1
+    ▸ End)) ▸ statement (call (member (ident (codes "h")) (codes "apply")) (null ▸ ident (codes "e") ▸ End)) ▸ End) ▸ End) ▸ absent ▸ End)
     ▸ End)
     (HostCall 7 shown.Undefined (shown.Num (js_number.Whole (pos 1)) ∷ []) ∷ []) (ending.Outside)
-lists_of_apply_that_are_errors = simp meaning_node refl
+lists_of_apply_that_are_errors = does refl (simp meaning_node refl)

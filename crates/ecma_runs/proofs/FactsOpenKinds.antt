@@ -8,18 +8,21 @@ use Rattle.ecma_kind.specs.declared.operators.VarDeclKind.TheVariants.{Let}
 use Rattle.ecma_runs.specs.declared.observation.Event.TheVariants.{HostCall}
 use Rattle.ecma_runs.specs.declared.observation.Ending.TheVariants as ending
 use Rattle.ecma_runs.specs.declared.shown.Shown.TheVariants as shown
-use Rattle.ecma_runs.proofs.Trees.{End, ◌▸◌, tree, absent, list, ident, key, binding, whole, string, member, super_member, call, new', parens, array, object, property, statement, block, returns, declare_pattern, declare, parameter, declare_function, modifiers, field, declare_class, meaning_node}
-use Rattle.ecma_runs.proofs.Scripts.{Does, nulls}
+use Rattle.ecma_runs.proofs.Trees.{End, ◌▸◌, tree, absent, list, ident, key, binding, whole, string, member, super_member, call, new'}
+use Rattle.ecma_runs.proofs.Trees.{parens, array, object, property, statement, block, returns}
+use Rattle.ecma_runs.proofs.Trees.{declare_pattern, declare, parameter, declare_function, modifiers, field, declare_class, meaning_node}
+use Rattle.ecma_runs.proofs.Scripts.{Does, does, nulls}
 
 -- async function h(a = f(2)) { f(3); } f(1); h();
 calls_of_async_functions :
     Does 9 nulls []
-    (tree (kind.FnDecl false) (ident (codes "h") ▸ tree (kind.Function false true) (list (parameter (tree kind.AssignPat (binding (codes "a") ▸ call (ident (codes "f")) (whole 2 ▸ End) ▸ End)) ▸ End) ▸ block (statement (call (ident (codes "f")) (whole 3 ▸ End)) ▸ End) ▸ absent ▸ absent ▸ End) ▸ End)
+    (tree (kind.FnDecl false) (ident (codes "h") ▸ tree (kind.Function false true) (list (parameter (tree kind.AssignPat (binding (codes "a") ▸ call (ident (codes "f")) (whole 2
+    ▸ End) ▸ End)) ▸ End) ▸ block (statement (call (ident (codes "f")) (whole 3 ▸ End)) ▸ End) ▸ absent ▸ absent ▸ End) ▸ End)
     ▸ statement (call (ident (codes "f")) (whole 1 ▸ End))
     ▸ statement (call (ident (codes "h")) End)
     ▸ End)
     (HostCall 7 shown.Undefined (shown.Num (js_number.Whole (pos 1)) ∷ []) ∷ []) (ending.Outside)
-calls_of_async_functions = simp meaning_node refl
+calls_of_async_functions = does refl (simp meaning_node refl)
 
 -- let h = async () => f(2); f(1); h();
 calls_of_async_arrows :
@@ -29,57 +32,62 @@ calls_of_async_arrows :
     ▸ statement (call (ident (codes "h")) End)
     ▸ End)
     (HostCall 7 shown.Undefined (shown.Num (js_number.Whole (pos 1)) ∷ []) ∷ []) (ending.Outside)
-calls_of_async_arrows = simp meaning_node refl
+calls_of_async_arrows = does refl (simp meaning_node refl)
 
 -- let o = { async m() { f(2); } }; f(1); o.m();
 calls_of_async_methods :
     Does 9 nulls []
-    (declare Let (codes "o") (object (tree kind.MethodProp (key (codes "m") ▸ tree (kind.Function false true) (list End ▸ block (statement (call (ident (codes "f")) (whole 2 ▸ End)) ▸ End) ▸ absent ▸ absent ▸ End) ▸ End) ▸ End))
+    (declare Let (codes "o") (object (tree kind.MethodProp (key (codes "m") ▸ tree (kind.Function false true) (list End ▸ block (statement (call (ident (codes "f")) (whole 2
+    ▸ End)) ▸ End) ▸ absent ▸ absent ▸ End) ▸ End) ▸ End))
     ▸ statement (call (ident (codes "f")) (whole 1 ▸ End))
     ▸ statement (call (member (ident (codes "o")) (codes "m")) End)
     ▸ End)
     (HostCall 7 shown.Undefined (shown.Num (js_number.Whole (pos 1)) ∷ []) ∷ []) (ending.Outside)
-calls_of_async_methods = simp meaning_node refl
+calls_of_async_methods = does refl (simp meaning_node refl)
 
 -- function* h(a = f(2)) { f(3); } f(1); h();
 calls_of_generators :
     Does 9 nulls []
-    (tree (kind.FnDecl false) (ident (codes "h") ▸ tree (kind.Function true false) (list (parameter (tree kind.AssignPat (binding (codes "a") ▸ call (ident (codes "f")) (whole 2 ▸ End) ▸ End)) ▸ End) ▸ block (statement (call (ident (codes "f")) (whole 3 ▸ End)) ▸ End) ▸ absent ▸ absent ▸ End) ▸ End)
+    (tree (kind.FnDecl false) (ident (codes "h") ▸ tree (kind.Function true false) (list (parameter (tree kind.AssignPat (binding (codes "a") ▸ call (ident (codes "f")) (whole 2
+    ▸ End) ▸ End)) ▸ End) ▸ block (statement (call (ident (codes "f")) (whole 3 ▸ End)) ▸ End) ▸ absent ▸ absent ▸ End) ▸ End)
     ▸ statement (call (ident (codes "f")) (whole 1 ▸ End))
     ▸ statement (call (ident (codes "h")) End)
     ▸ End)
     (HostCall 7 shown.Undefined (shown.Num (js_number.Whole (pos 1)) ∷ []) ∷ []) (ending.Outside)
-calls_of_generators = simp meaning_node refl
+calls_of_generators = does refl (simp meaning_node refl)
 
 -- let h = async function* () { f(2); }; f(1); h();
 calls_of_async_generators :
     Does 9 nulls []
-    (declare Let (codes "h") (tree kind.FnExpr (absent ▸ tree (kind.Function true true) (list End ▸ block (statement (call (ident (codes "f")) (whole 2 ▸ End)) ▸ End) ▸ absent ▸ absent ▸ End) ▸ End))
+    (declare Let (codes "h") (tree kind.FnExpr (absent ▸ tree (kind.Function true true) (list End ▸ block (statement (call (ident (codes "f")) (whole 2 ▸ End)) ▸ End) ▸ absent
+    ▸ absent ▸ End) ▸ End))
     ▸ statement (call (ident (codes "f")) (whole 1 ▸ End))
     ▸ statement (call (ident (codes "h")) End)
     ▸ End)
     (HostCall 7 shown.Undefined (shown.Num (js_number.Whole (pos 1)) ∷ []) ∷ []) (ending.Outside)
-calls_of_async_generators = simp meaning_node refl
+calls_of_async_generators = does refl (simp meaning_node refl)
 
 -- class A { static *m() { f(2); } } f(1); A.m();
 calls_of_generator_methods :
     Does 9 nulls []
-    (declare_class (codes "A") absent (tree (kind.ClassMethod method.Method (modifiers true)) (key (codes "m") ▸ tree (kind.Function true false) (list End ▸ block (statement (call (ident (codes "f")) (whole 2 ▸ End)) ▸ End) ▸ absent ▸ absent ▸ End) ▸ End) ▸ End)
+    (declare_class (codes "A") absent (tree (kind.ClassMethod method.Method (modifiers true)) (key (codes "m") ▸ tree (kind.Function true false) (list End
+    ▸ block (statement (call (ident (codes "f")) (whole 2 ▸ End)) ▸ End) ▸ absent ▸ absent ▸ End) ▸ End) ▸ End)
     ▸ statement (call (ident (codes "f")) (whole 1 ▸ End))
     ▸ statement (call (member (ident (codes "A")) (codes "m")) End)
     ▸ End)
     (HostCall 7 shown.Undefined (shown.Num (js_number.Whole (pos 1)) ∷ []) ∷ []) (ending.Outside)
-calls_of_generator_methods = simp meaning_node refl
+calls_of_generator_methods = does refl (simp meaning_node refl)
 
 -- let h = function* () { f(2); }.bind(); f(1); h();
 calls_of_bound_generators :
     Does 9 nulls []
-    (declare Let (codes "h") (call (member (tree kind.FnExpr (absent ▸ tree (kind.Function true false) (list End ▸ block (statement (call (ident (codes "f")) (whole 2 ▸ End)) ▸ End) ▸ absent ▸ absent ▸ End) ▸ End)) (codes "bind")) End)
+    (declare Let (codes "h") (call (member (tree kind.FnExpr (absent ▸ tree (kind.Function true false) (list End ▸ block (statement (call (ident (codes "f")) (whole 2 ▸ End))
+    ▸ End) ▸ absent ▸ absent ▸ End) ▸ End)) (codes "bind")) End)
     ▸ statement (call (ident (codes "f")) (whole 1 ▸ End))
     ▸ statement (call (ident (codes "h")) End)
     ▸ End)
     (HostCall 7 shown.Undefined (shown.Num (js_number.Whole (pos 1)) ∷ []) ∷ []) (ending.Outside)
-calls_of_bound_generators = simp meaning_node refl
+calls_of_bound_generators = does refl (simp meaning_node refl)
 
 -- f(1); await f(2);
 await :
@@ -88,7 +96,7 @@ await :
     ▸ statement (tree kind.AwaitExpr (call (ident (codes "f")) (whole 2 ▸ End) ▸ End))
     ▸ End)
     (HostCall 7 shown.Undefined (shown.Num (js_number.Whole (pos 1)) ∷ []) ∷ []) (ending.Outside)
-await = simp meaning_node refl
+await = does refl (simp meaning_node refl)
 
 -- f(1); import("m");
 dynamic_import :
@@ -97,7 +105,7 @@ dynamic_import :
     ▸ statement (tree kind.CallExpr (tree kind.Import End ▸ list (string (codes "m") ▸ End) ▸ absent ▸ End))
     ▸ End)
     (HostCall 7 shown.Undefined (shown.Num (js_number.Whole (pos 1)) ∷ []) ∷ []) (ending.Outside)
-dynamic_import = simp meaning_node refl
+dynamic_import = does refl (simp meaning_node refl)
 
 -- f(1); import.meta;
 meta_alone :
@@ -106,7 +114,7 @@ meta_alone :
     ▸ statement (tree (kind.MetaPropExpr ImportMeta) End)
     ▸ End)
     (HostCall 7 shown.Undefined (shown.Num (js_number.Whole (pos 1)) ∷ []) ∷ []) (ending.Outside)
-meta_alone = simp meaning_node refl
+meta_alone = does refl (simp meaning_node refl)
 
 -- f(1); f(...[1]);
 spread_arguments :
@@ -115,7 +123,7 @@ spread_arguments :
     ▸ statement (call (ident (codes "f")) (tree kind.SpreadElement (array (whole 1 ▸ End) ▸ End) ▸ End))
     ▸ End)
     (HostCall 7 shown.Undefined (shown.Num (js_number.Whole (pos 1)) ∷ []) ∷ []) (ending.Outside)
-spread_arguments = simp meaning_node refl
+spread_arguments = does refl (simp meaning_node refl)
 
 -- f(1); [f(2), ...[1]];
 spread_elements :
@@ -124,7 +132,7 @@ spread_elements :
     ▸ statement (array (call (ident (codes "f")) (whole 2 ▸ End) ▸ tree kind.SpreadElement (array (whole 1 ▸ End) ▸ End) ▸ End))
     ▸ End)
     (HostCall 7 shown.Undefined (shown.Num (js_number.Whole (pos 1)) ∷ []) ∷ HostCall 7 shown.Undefined (shown.Num (js_number.Whole (pos 2)) ∷ []) ∷ []) (ending.Outside)
-spread_elements = simp meaning_node refl
+spread_elements = does refl (simp meaning_node refl)
 
 -- f(1); ({ a: f(2), ...f });
 spread_properties :
@@ -133,7 +141,7 @@ spread_properties :
     ▸ statement (parens (object (property (key (codes "a")) (call (ident (codes "f")) (whole 2 ▸ End)) ▸ tree kind.SpreadElement (ident (codes "f") ▸ End) ▸ End)))
     ▸ End)
     (HostCall 7 shown.Undefined (shown.Num (js_number.Whole (pos 1)) ∷ []) ∷ HostCall 7 shown.Undefined (shown.Num (js_number.Whole (pos 2)) ∷ []) ∷ []) (ending.Outside)
-spread_properties = simp meaning_node refl
+spread_properties = does refl (simp meaning_node refl)
 
 -- function h(a, ...b) {} f(1); h();
 rest_parameters :
@@ -143,7 +151,7 @@ rest_parameters :
     ▸ statement (call (ident (codes "h")) End)
     ▸ End)
     (HostCall 7 shown.Undefined (shown.Num (js_number.Whole (pos 1)) ∷ []) ∷ []) (ending.Outside)
-rest_parameters = simp meaning_node refl
+rest_parameters = does refl (simp meaning_node refl)
 
 -- f(1); let [a] = [f(2)];
 array_patterns :
@@ -152,15 +160,16 @@ array_patterns :
     ▸ declare_pattern Let (tree (kind.ArrayPat false) (list (binding (codes "a") ▸ End) ▸ absent ▸ End)) (array (call (ident (codes "f")) (whole 2 ▸ End) ▸ End))
     ▸ End)
     (HostCall 7 shown.Undefined (shown.Num (js_number.Whole (pos 1)) ∷ []) ∷ HostCall 7 shown.Undefined (shown.Num (js_number.Whole (pos 2)) ∷ []) ∷ []) (ending.Outside)
-array_patterns = simp meaning_node refl
+array_patterns = does refl (simp meaning_node refl)
 
 -- let { a, ...b } = { a: f(1) };
 rest_of_patterns :
     Does 9 nulls []
-    (declare_pattern Let (tree (kind.ObjectPat false) (list (tree kind.AssignPatProp (binding (codes "a") ▸ absent ▸ End) ▸ tree kind.RestPat (binding (codes "b") ▸ absent ▸ End) ▸ End) ▸ absent ▸ End)) (object (property (key (codes "a")) (call (ident (codes "f")) (whole 1 ▸ End)) ▸ End))
+    (declare_pattern Let (tree (kind.ObjectPat false) (list (tree kind.AssignPatProp (binding (codes "a") ▸ absent ▸ End) ▸ tree kind.RestPat (binding (codes "b") ▸ absent ▸ End)
+    ▸ End) ▸ absent ▸ End)) (object (property (key (codes "a")) (call (ident (codes "f")) (whole 1 ▸ End)) ▸ End))
     ▸ End)
     (HostCall 7 shown.Undefined (shown.Num (js_number.Whole (pos 1)) ∷ []) ∷ []) (ending.Outside)
-rest_of_patterns = simp meaning_node refl
+rest_of_patterns = does refl (simp meaning_node refl)
 
 -- f(1); class A { #x = 1; }
 private_names :
@@ -169,7 +178,7 @@ private_names :
     ▸ declare_class (codes "A") absent (tree (kind.PrivateProp (modifiers false) false false false) (tree (kind.PrivateName (codes "x")) End ▸ whole 1 ▸ absent ▸ End) ▸ End)
     ▸ End)
     (HostCall 7 shown.Undefined (shown.Num (js_number.Whole (pos 1)) ∷ []) ∷ []) (ending.Outside)
-private_names = simp meaning_node refl
+private_names = does refl (simp meaning_node refl)
 
 -- f(1); class A { static { f(2); } }
 static_blocks :
@@ -178,16 +187,17 @@ static_blocks :
     ▸ declare_class (codes "A") absent (tree kind.StaticBlock (block (statement (call (ident (codes "f")) (whole 2 ▸ End)) ▸ End) ▸ End) ▸ End)
     ▸ End)
     (HostCall 7 shown.Undefined (shown.Num (js_number.Whole (pos 1)) ∷ []) ∷ []) (ending.Outside)
-static_blocks = simp meaning_node refl
+static_blocks = does refl (simp meaning_node refl)
 
 -- f(1); f`a`;
 tagged_templates :
     Does 9 nulls []
     (statement (call (ident (codes "f")) (whole 1 ▸ End))
-    ▸ statement (tree kind.TaggedTpl (ident (codes "f") ▸ absent ▸ tree kind.Tpl (list End ▸ list (tree (kind.TplElement (codes "a") (Some (codes "a")) true) End ▸ End) ▸ End) ▸ End))
+    ▸ statement (tree kind.TaggedTpl (ident (codes "f") ▸ absent ▸ tree kind.Tpl (list End ▸ list (tree (kind.TplElement (codes "a") (Some (codes "a")) true) End ▸ End) ▸ End)
+    ▸ End))
     ▸ End)
     (HostCall 7 shown.Undefined (shown.Num (js_number.Whole (pos 1)) ∷ []) ∷ []) (ending.Outside)
-tagged_templates = simp meaning_node refl
+tagged_templates = does refl (simp meaning_node refl)
 
 -- f(1); for (let x of [1]) f(x);
 loops_over_iterators :
@@ -196,7 +206,7 @@ loops_over_iterators :
     ▸ tree (kind.ForOfStmt false) (declare Let (codes "x") absent ▸ array (whole 1 ▸ End) ▸ statement (call (ident (codes "f")) (ident (codes "x") ▸ End)) ▸ End)
     ▸ End)
     (HostCall 7 shown.Undefined (shown.Num (js_number.Whole (pos 1)) ∷ []) ∷ []) (ending.Outside)
-loops_over_iterators = simp meaning_node refl
+loops_over_iterators = does refl (simp meaning_node refl)
 
 -- f(1); for (let x in {}) f(x);
 loops_over_keys :
@@ -205,7 +215,7 @@ loops_over_keys :
     ▸ tree kind.ForInStmt (declare Let (codes "x") absent ▸ object End ▸ statement (call (ident (codes "f")) (ident (codes "x") ▸ End)) ▸ End)
     ▸ End)
     (HostCall 7 shown.Undefined (shown.Num (js_number.Whole (pos 1)) ∷ []) ∷ []) (ending.Outside)
-loops_over_keys = simp meaning_node refl
+loops_over_keys = does refl (simp meaning_node refl)
 
 -- f(1); a: f(2);
 labels :
@@ -214,7 +224,7 @@ labels :
     ▸ tree kind.LabeledStmt (ident (codes "a") ▸ statement (call (ident (codes "f")) (whole 2 ▸ End)) ▸ End)
     ▸ End)
     (HostCall 7 shown.Undefined (shown.Num (js_number.Whole (pos 1)) ∷ []) ∷ []) (ending.Outside)
-labels = simp meaning_node refl
+labels = does refl (simp meaning_node refl)
 
 -- f(1); return 2;
 returns_of_modules :
@@ -223,16 +233,7 @@ returns_of_modules :
     ▸ returns (whole 2)
     ▸ End)
     (HostCall 7 shown.Undefined (shown.Num (js_number.Whole (pos 1)) ∷ []) ∷ []) (ending.Outside)
-returns_of_modules = simp meaning_node refl
-
--- f(1); $enum.E;
-enums :
-    Does 9 nulls []
-    (statement (call (ident (codes "f")) (whole 1 ▸ End))
-    ▸ tree (kind.TsEnumDecl false false) (ident (codes "E") ▸ list End ▸ End)
-    ▸ End)
-    (HostCall 7 shown.Undefined (shown.Num (js_number.Whole (pos 1)) ∷ []) ∷ []) (ending.Outside)
-enums = simp meaning_node refl
+returns_of_modules = does refl (simp meaning_node refl)
 
 -- f(1); $namespace.N;
 namespaces :
@@ -241,7 +242,7 @@ namespaces :
     ▸ tree (kind.TsModuleDecl false false) (ident (codes "N") ▸ tree kind.TsModuleBlock (list (tree kind.ExprStmt (whole 1 ▸ End) ▸ End) ▸ End) ▸ End)
     ▸ End)
     (HostCall 7 shown.Undefined (shown.Num (js_number.Whole (pos 1)) ∷ []) ∷ []) (ending.Outside)
-namespaces = simp meaning_node refl
+namespaces = does refl (simp meaning_node refl)
 
 -- f(1); $break.x;
 breaks_out_of_nothing :
@@ -250,7 +251,7 @@ breaks_out_of_nothing :
     ▸ tree kind.BreakStmt (absent ▸ End)
     ▸ End)
     (HostCall 7 shown.Undefined (shown.Num (js_number.Whole (pos 1)) ∷ []) ∷ []) (ending.Outside)
-breaks_out_of_nothing = simp meaning_node refl
+breaks_out_of_nothing = does refl (simp meaning_node refl)
 
 -- f(1); $continue.x;
 continues_of_nothing :
@@ -259,7 +260,7 @@ continues_of_nothing :
     ▸ tree kind.ContinueStmt (absent ▸ End)
     ▸ End)
     (HostCall 7 shown.Undefined (shown.Num (js_number.Whole (pos 1)) ∷ []) ∷ []) (ending.Outside)
-continues_of_nothing = simp meaning_node refl
+continues_of_nothing = does refl (simp meaning_node refl)
 
 -- f(1); $new_target.x;
 new_target_of_modules :
@@ -268,7 +269,7 @@ new_target_of_modules :
     ▸ statement (tree (kind.MetaPropExpr NewTarget) End)
     ▸ End)
     (HostCall 7 shown.Undefined (shown.Num (js_number.Whole (pos 1)) ∷ []) ∷ []) (ending.Outside)
-new_target_of_modules = simp meaning_node refl
+new_target_of_modules = does refl (simp meaning_node refl)
 
 -- f(1); $super.x;
 super_members_of_modules :
@@ -277,7 +278,7 @@ super_members_of_modules :
     ▸ statement (super_member (codes "x"))
     ▸ End)
     (HostCall 7 shown.Undefined (shown.Num (js_number.Whole (pos 1)) ∷ []) ∷ []) (ending.Outside)
-super_members_of_modules = simp meaning_node refl
+super_members_of_modules = does refl (simp meaning_node refl)
 
 -- f(1); $escape.x;
 ill_formed_escapes :
@@ -286,7 +287,7 @@ ill_formed_escapes :
     ▸ statement (tree kind.Tpl (list End ▸ list (tree (kind.TplElement (codes "\\u") None true) End ▸ End) ▸ End))
     ▸ End)
     (HostCall 7 shown.Undefined (shown.Num (js_number.Whole (pos 1)) ∷ []) ∷ []) (ending.Outside)
-ill_formed_escapes = simp meaning_node refl
+ill_formed_escapes = does refl (simp meaning_node refl)
 
 -- class A { $arguments; } f(1); new A();
 arguments_in_fields :
@@ -296,24 +297,15 @@ arguments_in_fields :
     ▸ statement (new' (ident (codes "A")) End)
     ▸ End)
     (HostCall 7 shown.Undefined (shown.Num (js_number.Whole (pos 1)) ∷ []) ∷ []) (ending.Outside)
-arguments_in_fields = simp meaning_node refl
+arguments_in_fields = does refl (simp meaning_node refl)
 
 -- class A { $property; } f(1); new A(2);
 parameter_properties :
     Does 9 nulls []
-    (declare_class (codes "A") absent (tree (kind.Constructor None false) (key (codes "constructor") ▸ list (tree (kind.TsParamProp None false false) (binding (codes "x") ▸ End) ▸ End) ▸ block End ▸ End) ▸ End)
+    (declare_class (codes "A") absent (tree (kind.Constructor None false) (key (codes "constructor") ▸ list (tree (kind.TsParamProp None false false) (binding (codes "x") ▸ End)
+    ▸ End) ▸ block End ▸ End) ▸ End)
     ▸ statement (call (ident (codes "f")) (whole 1 ▸ End))
     ▸ statement (new' (ident (codes "A")) (whole 2 ▸ End))
     ▸ End)
     (HostCall 7 shown.Undefined (shown.Num (js_number.Whole (pos 1)) ∷ []) ∷ []) (ending.Outside)
-parameter_properties = simp meaning_node refl
-
--- f(1); E; $enum.E;
-names_of_enums_before_them :
-    Does 9 nulls []
-    (statement (call (ident (codes "f")) (whole 1 ▸ End))
-    ▸ statement (ident (codes "E"))
-    ▸ tree (kind.TsEnumDecl false false) (ident (codes "E") ▸ list End ▸ End)
-    ▸ End)
-    (HostCall 7 shown.Undefined (shown.Num (js_number.Whole (pos 1)) ∷ []) ∷ []) (ending.Outside)
-names_of_enums_before_them = simp meaning_node refl
+parameter_properties = does refl (simp meaning_node refl)

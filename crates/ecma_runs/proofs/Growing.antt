@@ -1,5 +1,5 @@
 -- Events only grow: a run does the same behind events that came before, and so its own stand behind them.
-use Rattle.std.proofs.Common.{◌≡◌, Some, ◌++◌, inl, refl, subst, subst₂, ap, sym, List, [], ◌∷◌, append-nil}
+use Rattle.std.proofs.Common.{◌≡◌, Some, ◌++◌, inl, refl, subst, subst₂, ap, sym, List, [], ◌∷◌, map, append-nil}
 use Rattle.ecma_tree.specs.declared.node.Node.{Node}
 use Rattle.ecma_runs.specs.declared.observation.Event.{Event}
 use Rattle.ecma_runs.specs.declared.observation.Ending.{Ending}
@@ -11,7 +11,7 @@ use Rattle.ecma_runs.specs.declared.script.Script.{Script}
 use Rattle.ecma_runs.specs.State.{Entered, State}
 use Rattle.ecma_runs.specs.Run.{Outcome, Done, Thrown, Returned, Broken, Continued, Ended, Run, then_outcome, ◌>>=◌, give, each}
 use Rattle.ecma_runs.specs.Host.{Provided, provided_by}
-use Rattle.ecma_runs.specs.Environment.{new_environment}
+use Rattle.ecma_runs.specs.Environment.{filled, new_environment}
 use Rattle.ecma_runs.specs.Meaning.{Known}
 use Rattle.ecma_runs.specs.Evaluation.{meaning}
 use Rattle.ecma_runs.specs.Exports.{Exported}
@@ -22,7 +22,7 @@ use Rattle.ecma_runs.proofs.Names.{changed_entered}
 use Rattle.ecma_runs.proofs.Exports.{changed_exports}
 use Rattle.ecma_runs.proofs.Meanings.{World}
 use Rattle.ecma_runs.proofs.Kept.{StepsAlike, invoke_alike, module_world, act_alike, run_body_alike}
-use Rattle.ecma_runs.proofs.Layers.{same_names, same_ids, same_known, same_exports, exports_kept, Telling, always, nothing_excused, images, itself_layers, layers_alike}
+use Rattle.ecma_runs.proofs.Layers.{same_names, same_ids, same_known, same_exports, exports_kept, Telling, always, nothing_excused, exactly, images, itself_layers, layers_alike}
 use Rattle.ecma_runs.proofs.Depth.{same_state, fine_all}
 
 -- the same run, behind events that came before
@@ -30,10 +30,10 @@ abbrev after : List Event → Telling
 after before = record { more = 0; before = before; excused = nothing_excused; turns_excused = inl refl; holds = always; falls = λ n h. tt }
 
 abbrev behind : Known → List Event → Change
-behind known before = images (λ n. n) known (after before)
+behind known before = images (λ n. n) known (after before) (exactly (λ n. Unit {0}) (λ n. n) known (λ n. refl))
 
 behind_steps : (known : Known) (before : List Event) → StepsAlike (behind known before)
-behind_steps known before = layers_alike (λ n. n) known (after before) itself_layers
+behind_steps known before = layers_alike (λ n. n) known (after before) (exactly (λ n. Unit {0}) (λ n. n) known (λ n. refl)) refl itself_layers
 
 -- a state is what it is without its events, behind them
 changed_back : (known : Known) (s : State) → changed (behind known s.events) (record s { events = [] }) ≡ s
@@ -110,10 +110,10 @@ actions_more provided known entered exports actions more (answer.Return v) =
     give_more ending.Done ending.Done _ _ (each_more known (act (module_context provided known entered) exports) (act_behind provided known entered exports) actions more)
 actions_more provided known entered exports actions more (answer.Throw v) = record { at = λ s. same_events s.events }
 
-module_more : (m : Node) (script : Script) (more : List Action) → HasMore (run_module m script) (run_module m (record script { actions = script.actions ++ more }))
-module_more m script more =
-    bind_more (new_environment (meaning m).locals (Some module_activation)) (λ place. bind_more (run_body (module_context (provided_by script) (known_of m) place) m) (λ outcome.
-    actions_more (provided_by script) (known_of m) place (exports_in m) script.actions more outcome))
+module_more : (known : Known) (m : Node) (script : Script) (more : List Action) → HasMore (run_module known m script) (run_module known m (record script { actions = script.actions ++ more }))
+module_more known m script more =
+    bind_more (new_environment (map filled (meaning m).locals) (Some module_activation)) (λ place. bind_more (run_body (module_context (provided_by script) known place) m) (λ outcome.
+    actions_more (provided_by script) known place (exports_in m) script.actions more outcome))
 
 pub observed_events : (r : Outcome Ending) → (observed r).events ≡ (state_behind r).events
 observed_events (Done end s) = refl
@@ -129,6 +129,6 @@ events_only_grow = record {
   action = λ provided known entered exports a s. grows known _ (act_behind provided known entered exports a) s;
   actions = λ turns options m script more.
       let script_more : Script = record script { actions = script.actions ++ more } in
-      rw (observed_events (run_module m script (start turns script)), observed_events (run_module m script_more (start turns script)))
-      ((module_more m script more).at (start turns script));
+      rw (observed_events (run_module (known_of options m) m script (start turns script)), observed_events (run_module (known_of options m) m script_more (start turns script)))
+      ((module_more (known_of options m) m script more).at (start turns script));
 }

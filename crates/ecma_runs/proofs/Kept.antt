@@ -1,5 +1,5 @@
 -- A map of trees by which a node and its image mean alike where their children do keeps whole runs: the meaning of each node, calls, and what is observed.
-use Rattle.std.proofs.Common.{◌≡◌, ◌≢◌, ℕ, zero, suc, ◌+◌, ◌++◌, ◌⊎◌, inl, inr, refl, sym, ap, ◌∙◌, subst, subst₂, List, [], ◌∷◌, map, Option, Some, None, Bool, true, false, cond, is_some, suc-add}
+use Rattle.std.proofs.Common.{◌≡◌, ◌≢◌, ℕ, zero, suc, ◌+◌, ◌++◌, ◌⊎◌, inl, inr, refl, sym, ap, ap₂, ◌∙◌, subst, subst₂, List, [], ◌∷◌, map, Option, Some, None, Bool, true, false, cond, is_some, suc-add}
 use Rattle.ecma_tree.specs.declared.node.Node.{Node, Node-F, roll-Node, ind-Node}
 use Rattle.ecma_config.specs.declared.config.Config.{Config}
 use Rattle.ecma_runs.specs.declared.observation.Ending.{Ending}
@@ -12,7 +12,7 @@ use Rattle.ecma_runs.specs.declared.script.Script.{Script}
 use Rattle.ecma_runs.specs.Values.{Value, Undefined, Own, Host, Error}
 use Rattle.ecma_runs.specs.State.{Id, Environment, Entered, Activation, Sort, Plain, Method, Arrow, BaseClass, DerivedClass, Closure, State}
 use Rattle.ecma_runs.specs.Run.{give, ◌>>=◌, each, Stop, TurnsSpent, Outside, Outcome, Done, Thrown, Returned, Broken, Continued, Ended, Run}
-use Rattle.ecma_runs.specs.Environment.{ids_of, empty}
+use Rattle.ecma_runs.specs.Environment.{ids_of, empty, filled}
 use Rattle.ecma_kind.specs.declared.kind.Kind.{Kind}
 use Rattle.ecma_kind.specs.declared.kind.Kind.TheVariants as kind
 use Rattle.ecma_runs.specs.Host.{Provided, provided_by, taken}
@@ -20,13 +20,13 @@ use Rattle.ecma_runs.specs.Meaning.{Meaning, inside, Invocation, AsCall, AsConst
 use Rattle.ecma_runs.specs.Classes.{field_activation}
 use Rattle.ecma_runs.specs.Sought.{Sought, nothing_sought, Seeker, meanings, outside_of, sought_by, sought_in}
 use Rattle.ecma_runs.specs.Evaluation.{meaning_by, meaning, entered, as_it_is, called_with, constructed_with, or_object, this_of, or_this, instance_object, construct_base, invoked, class_fields, fields_by, invoke_closure, fields_of_closure, no_fields, fields_with, functions_with, apply_at, calls, invoke}
-use Rattle.ecma_runs.specs.Observation.{known_of, exports_in, module_context, outcome_shown, shown_to_host, done_by, act, run_body, run_actions, module_activation, run_module, start, ending_of, observed, observe}
+use Rattle.ecma_runs.specs.Observation.{enums_of, known_of, exports_in, module_context, outcome_shown, shown_to_host, done_by, act, run_body, run_actions, module_activation, run_module, start, ending_of, observed, observe}
 use Rattle.ecma_runs.specs.Exports.{Exported}
 use Rattle.ecma_runs.proofs.Exports.{changed_exports, KeepsExports}
 use Rattle.ecma_runs.proofs.Reading.{IsFirst, read_export_alike}
 use Rattle.ecma_runs.proofs.Layer.{meaning-roll}
 use Rattle.ecma_runs.proofs.Seeking.{sought-roll}
-use Rattle.ecma_runs.proofs.Names.{Unless, unless_is, unless_map, unless_both, changed_known}
+use Rattle.ecma_runs.proofs.Names.{Unless, unless_is, unless_map, unless_both, changed_known, ids_of-filled, filled-changed}
 use Rattle.ecma_runs.proofs.Scopes.{AreThere, Opens, opened, in_empty, stands_unless, ids_of-empties}
 use Rattle.ecma_runs.proofs.Alike.{Change, changed, Standing, seeks, seeker_of, Keeps, Around, Good, Follows, Alike, bind_alike, give_alike, throw_alike, outside_alike, excused_alike, given_or_alike, each_alike, spend_alike}
 use Rattle.ecma_runs.proofs.Environments.{beside, Knows, AllKnown, enter_alike, activation_at_alike, handled_alike, taken_alike, show_alike}
@@ -340,19 +340,19 @@ module _ (c : Change) (steps : StepsAlike c) where
     module_world e knows = world provided (functions_with (invoke provided c.known) provided c.known) (functions_with (invoke provided (known' provided)) provided (known' provided))
         (λ u. functions_with_alike provided u (invoke provided c.known) (invoke provided (known' provided)) (calls_do u) (λ some. refl)) (e ∷ []) (unless_map c.names.plain (λ k es around. (k es around, tt)) knows)
 
-  known_alike : (n : Node) → c.fine n → known_of n ≡ c.known → known_of (c.node n) ≡ changed_known c.names c.known
-  known_alike n fine is =
-      let one : known_of (c.node n) ≡ changed_known c.names (known_of n) = λ i. record { declared = (kept n fine).declared i } in one ∙ ap (changed_known c.names) is
+  pub known_alike : (options : Config) (n : Node) → c.fine n → known_of options n ≡ c.known → enums_of options (c.node n) ≡ enums_of options n → known_of options (c.node n) ≡ changed_known c.names c.known
+  known_alike options n fine is stay =
+      let one : known_of options (c.node n) ≡ changed_known c.names (known_of options n) = λ i. record { declared = (kept n fine).declared i; enums = stay i } in one ∙ ap (changed_known c.names) is
 
   exports_alike : (n : Node) → c.fine n → exports_in (c.node n) ≡ changed_exports c.names (exports_in n)
   exports_alike n fine = (kept n fine).exports None
 
   module _ (script : Script) (calls_do : CallsDoAlike (provided_by script)) where
-    pub run_module_alike : (n : Node) → c.fine n → known_of n ≡ c.known → Unless c.names.plain (Opens c.names (ids_of (meaning n).locals) (left_free c n) (seeks c n).sought) → Standing c [] (left_free c n) → KeepsExports c.names (ids_of (meaning n).locals) (exports_in n) → (c.uses ≡ true) ⊎ (script.actions ≡ []) → Alike c (run_module n script) (run_module (c.node n) script)
-    run_module_alike n fine is opens s keeps may =
-        rw ((kept n fine).locals, known_alike n fine is, is, exports_alike n fine)
-        (enter_alike c (λ e. run_body (module_context (provided_by script) (known' (provided_by script)) e) (c.node n) >>= λ outcome. run_actions (module_context (provided_by script) (known' (provided_by script)) e) (changed_exports c.names (exports_in n)) script.actions outcome) (meaning n).locals (Some module_activation) (λ e ids.
-        bind_alike (beside c e) (run_body_alike (module_world (provided_by script) calls_do e (newest c e)) n fine (opened c.names opens s e ids)) (λ outcome. run_actions_alike (module_world (provided_by script) calls_do e (newest c e)) ids (exports_in n) keeps script.actions may outcome)))
+    pub run_module_alike : (n : Node) → c.fine n → Unless c.names.plain (Opens c.names (ids_of (meaning n).locals) (left_free c n) (seeks c n).sought) → Standing c [] (left_free c n) → KeepsExports c.names (ids_of (meaning n).locals) (exports_in n) → (c.uses ≡ true) ⊎ (script.actions ≡ []) → Alike c (run_module c.known n script) (run_module (changed_known c.names c.known) (c.node n) script)
+    run_module_alike n fine opens s keeps may =
+        rw ((kept n fine).locals, filled-changed c.names (meaning n).locals, exports_alike n fine)
+        (enter_alike c (λ e. run_body (module_context (provided_by script) (known' (provided_by script)) e) (c.node n) >>= λ outcome. run_actions (module_context (provided_by script) (known' (provided_by script)) e) (changed_exports c.names (exports_in n)) script.actions outcome) (map filled (meaning n).locals) (Some module_activation) (λ e ids.
+        bind_alike (beside c e) (run_body_alike (module_world (provided_by script) calls_do e (newest c e)) n fine (opened c.names opens s e (ids ∙ ids_of-filled (meaning n).locals))) (λ outcome. run_actions_alike (module_world (provided_by script) calls_do e (newest c e)) (ids ∙ ids_of-filled (meaning n).locals) (exports_in n) keeps script.actions may outcome)))
 
 unless_not : {P : Type 0} (b : Bool) → b ≢ true → Unless b P → P
 unless_not true h p = absurd (h refl)
@@ -380,12 +380,13 @@ module _ (c : Change) (none_before : c.before ≡ []) where
   abbrev pub MayStart : Node → Type 0
   MayStart m = Unless c.names.plain (Opens c.names (ids_of (meaning m).locals) (left_free c m) (seeks c m).sought) × Standing c [] (left_free c m) × Around c [] × KeepsExports c.names (ids_of (meaning m).locals) (exports_in m)
 
-  pub observe_while : (steps : StepsAlike c) → c.uses ≡ true → (script : Script) → CallsDoAlike c steps (provided_by script) → (turns : ℕ) (options : Config) (m : Node) → c.fine m → known_of m ≡ c.known → MayStart m → c.holds turns → c.said []
+  pub observe_while : (steps : StepsAlike c) → c.uses ≡ true → (script : Script) → CallsDoAlike c steps (provided_by script) → (turns : ℕ) (options : Config) (m : Node) → c.fine m → known_of options m ≡ c.known → enums_of options (c.node m) ≡ enums_of options m → MayStart m → c.holds turns → c.said []
       → IsNotExcused c.excused (observe turns options m script).ending → observe (turns + c.more) options (c.node m) script ≡ observe turns options m script
-  observe_while steps u script calls_do turns options m fine is starts' holds said h =
-      ap (λ s. observed (run_module (c.node m) script s)) (sym (starts turns script))
-      ∙ observed_follows _ _ ((run_module_alike c steps script calls_do m fine is starts'.0 starts'.1 starts'.3 (inl u)).at (start turns script) ((tt, starts'.2), holds, said)) h
+  observe_while steps u script calls_do turns options m fine is stay starts' holds said h =
+      ap₂ (λ k s. observed (run_module k (c.node m) script s)) (known_alike c steps options m fine is stay) (sym (starts turns script))
+      ∙ observed_follows _ _ (subst (λ k. Follows c (λ a. a) (λ a. Unit {0}) (run_module k m script (start turns script)) (run_module (changed_known c.names c.known) (c.node m) script (changed c (start turns script)))) (sym is)
+      ((run_module_alike c steps script calls_do m fine starts'.0 starts'.1 starts'.3 (inl u)).at (start turns script) ((tt, starts'.2), holds, said))) h
 
-  pub observe_unless : StepsAlike c → c.uses ≡ true → c.passed ≡ None → (turns : ℕ) (options : Config) (m : Node) (script : Script) → c.fine m → known_of m ≡ c.known → MayStart m → c.holds turns → c.said []
+  pub observe_unless : StepsAlike c → c.uses ≡ true → c.passed ≡ None → (turns : ℕ) (options : Config) (m : Node) (script : Script) → c.fine m → known_of options m ≡ c.known → enums_of options (c.node m) ≡ enums_of options m → MayStart m → c.holds turns → c.said []
       → IsNotExcused c.excused (observe turns options m script).ending → observe (turns + c.more) options (c.node m) script ≡ observe turns options m script
   observe_unless steps u none turns options m script = observe_while steps u script (λ u. invoke_alike c steps (provided_by script) u none) turns options m

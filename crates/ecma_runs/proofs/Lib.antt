@@ -8,6 +8,7 @@ pub mod Meanings
 pub mod Reading
 pub mod Members
 pub mod Functions
+pub mod EnumReads
 pub mod Premises
 pub mod Lists
 pub mod Expressions
@@ -20,6 +21,7 @@ pub mod Steps
 pub mod Layer
 pub mod Seeking
 pub mod Kept
+pub mod EnumTrees
 pub mod Layers
 mod Parentheses
 pub mod Types
@@ -32,6 +34,7 @@ mod Growing
 mod Silence
 mod Trees
 mod ExportTrees
+mod KnownTrees
 mod Scripts
 mod FactsNames
 mod FactsOperators
@@ -59,6 +62,7 @@ mod FactsOpenNames
 mod FactsAliases
 mod FactsAssignments
 mod FactsExports
+mod FactsEnums
 mod FactsHeirs
 mod FactsOpenElements
 mod FactsMeeting

@@ -1,5 +1,5 @@
 -- Lists of which items may go: they do alike in each role that a list has.
-use Rattle.std.proofs.Common.{◌≡◌, ℕ, ◌++◌, ◌||◌, ◌&&◌, refl, sym, ap, ap₂, ◌∙◌, subst, subst₂, List, [], ◌∷◌, map, Option, Some, None, true, false}
+use Rattle.std.proofs.Common.{◌≡◌, ℕ, ◌++◌, ◌||◌, ◌&&◌, refl, sym, ap, ap₂, ◌∙◌, subst, subst₂, List, [], ◌∷◌, map, Option, Some, None, Bool, true, false}
 use Rattle.ecma_runs.specs.Values.{Value}
 use Rattle.ecma_runs.specs.State.{Id, Entered, Binding}
 use Rattle.ecma_runs.specs.Sought.{nothing_sought, Seeker, meanings, all_sought, all_code_sought}
@@ -8,8 +8,8 @@ use Rattle.ecma_runs.specs.Meaning.{Meaning}
 use Rattle.ecma_runs.specs.Expressions.{all_arguments, all_elements, all_texts}
 use Rattle.ecma_runs.specs.Patterns.{all_targets, all_matched, all_parameters}
 use Rattle.ecma_runs.specs.Classes.{all_code, all_defined, all_fields, all_statics}
-use Rattle.ecma_runs.specs.Statements.{all_completions, all_varied, all_hoisted, all_last, all_cases, all_switched}
-use Rattle.ecma_runs.specs.Declarations.{all_names, all_imported, all_lexicals, all_vars, all_parameter_names, all_declared, all_last_declared, all_shorthands, all_exports, joined_parts, all_cooked, all_plain, all_types, any_constructor}
+use Rattle.ecma_runs.specs.Statements.{all_completions, all_varied, all_hoisted, all_last, all_cases, all_switched, all_members}
+use Rattle.ecma_runs.specs.Declarations.{all_names, all_imported, all_lexicals, all_vars, all_parameter_names, all_declared, all_last_declared, all_shorthands, all_exports, joined_parts, all_cooked, all_plain, all_types, any_constructor, all_member_texts}
 use Rattle.ecma_runs.proofs.Names.{changed_ids, changed_bindings, changed_ids-append, changed_bindings-append}
 use Rattle.ecma_runs.proofs.Scopes.{one, rest}
 use Rattle.ecma_runs.proofs.Exports.{changed_exports, changed_exports-append}
@@ -27,6 +27,7 @@ module _ (c : Change) where
     pub targets : {a : List Entered} (v : Value) (w : World (at c a)) → Alike (at c a) (m.targets v (first (at c a) w)) (give tt)
     pub parameters : {a : List Entered} (arguments : List Value) (w : World (at c a)) → Alike (at c a) (m.parameters arguments (first (at c a) w)) (give arguments)
     pub completion : {a : List Entered} (w : World (at c a)) → Alike (at c a) (m.completion (first (at c a) w)) (give tt)
+    pub member : {a : List Entered} → c.enums.has ≡ true → (leaves_out : Bool) (ids : List Id) (w : World (at c a)) → Alike (at c a) (m.member leaves_out ids (first (at c a) w)) (give tt)
     pub varied : {a : List Entered} (w : World (at c a)) → Alike (at c a) (m.varied (first (at c a) w)) (give tt)
     pub hoisted : {a : List Entered} (w : World (at c a)) → Alike (at c a) (m.hoisted (first (at c a) w)) (give tt)
     pub last : {a : List Entered} (w : World (at c a)) → Alike (at c a) (m.last (first (at c a) w)) (give tt)
@@ -41,6 +42,7 @@ module _ (c : Change) where
     pub declared : changed_ids c.names m.declared ≡ []
     pub last_declared : changed_ids c.names m.last_declared ≡ []
     pub imported : (source : List ℕ) → changed_bindings c.names (m.imported source) ≡ []
+    pub member_texts : c.enums.has ≡ true → m.member_texts ≡ []
     pub exports : (source : Option (List ℕ)) → changed_exports c.names (m.exports source) ≡ []
     pub cooked : m.cooked ≡ Some []
     pub is_plain : m.is_plain ≡ true
@@ -128,6 +130,11 @@ module _ (c : Change) where
       all_exports_same items source ∙ ap (λ z. z ++ changed_exports c.names (all_exports (before items) source)) (sym (silent.exports source))
       ∙ sym (changed_exports-append c.names (m.exports source) (all_exports (before items) source))
 
+  pub all_member_texts_same : c.enums.has ≡ true → (items : List Item) → all_member_texts (behind items) ≡ all_member_texts (before items)
+  all_member_texts_same has [] = refl
+  all_member_texts_same has (Stays p ∷ items) = ap₂ (λ a b. a ++ b) (p.2.member_texts has) (all_member_texts_same has items)
+  all_member_texts_same has (Goes m silent ∷ items) = all_member_texts_same has items ∙ ap (λ z. z ++ all_member_texts (before items)) (sym (silent.member_texts has))
+
   no_parts : (o : Option (List (List ℕ))) → joined_parts (Some []) o ≡ o
   no_parts None = refl
   no_parts (Some parts) = refl
@@ -194,6 +201,13 @@ module _ (c : Change) {a : List Entered} (w : World (at c a)) where
   all_completions_alike [] h = give_alike d tt
   all_completions_alike (Stays p ∷ items) h = bind_alike d (p.2.completion w (one c.names _ _ h)) (λ _. all_completions_alike items (rest c.names _ _ h))
   all_completions_alike (Goes m silent ∷ items) h = skip d tt (λ _. all_completions (behind c items) (second d w)) (silent.completion w) (λ _. all_completions_alike items h)
+
+  pub all_members_alike : c.enums.has ≡ true → (items : List (Item c)) → Standing c w.scope (all_sought (seekers_before c items)) → (leaves_out : Bool) (ids : List Id)
+      → Alike d (all_members leaves_out ids (before c items) (first d w)) (all_members leaves_out ids (behind c items) (second d w))
+  all_members_alike has [] h leaves_out ids = give_alike d tt
+  all_members_alike has (Stays p ∷ items) h leaves_out ids = bind_alike d (p.2.member has leaves_out ids w (one c.names _ _ h)) (λ _. all_members_alike has items (rest c.names _ _ h) leaves_out ids)
+  all_members_alike has (Goes m silent ∷ items) h leaves_out ids =
+      skip d tt (λ _. all_members leaves_out ids (behind c items) (second d w)) (silent.member has leaves_out ids w) (λ _. all_members_alike has items h leaves_out ids)
 
   pub all_varied_alike : (items : List (Item c)) → Standing c w.scope (all_sought (seekers_before c items)) → Alike d (all_varied (before c items) (first d w)) (all_varied (behind c items) (second d w))
   all_varied_alike [] h = give_alike d tt

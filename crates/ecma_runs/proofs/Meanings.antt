@@ -4,7 +4,7 @@ use Rattle.ecma_runs.specs.Host.{Provided}
 use Rattle.ecma_runs.specs.Values.{Value}
 use Rattle.ecma_runs.specs.State.{Id, Entered, Sort}
 use Rattle.ecma_runs.specs.Run.{Run}
-use Rattle.ecma_runs.specs.Environment.{Reference, ids_of, except, empty, undefined, import_of}
+use Rattle.ecma_runs.specs.Environment.{Reference, ids_of, except, empty, undefined, unfilled, import_of}
 use Rattle.ecma_runs.specs.Meaning.{Invocation, Functions, ExecutionContext, Meaning}
 use Rattle.ecma_runs.specs.Sought.{Sought, nothing_sought, Seeker, meanings}
 use Rattle.ecma_runs.specs.Evaluation.{fields_with, invoke}
@@ -95,6 +95,7 @@ module _ (c : Change) where
   pub record SameSeeking (m : Meaning) (s : Sought) (m' : Meaning) : Type 0 where
     pub value : {a : List Entered} → EvaluatesAlike a s.sought m.value m'.value
     pub reference : {a : List Entered} (w : World (at c a)) → Standing c w.scope s.sought → AlikeReference (at c a) (m.reference (first (at c a) w)) (m'.reference (second (at c a) w))
+    pub written : {a : List Entered} (w : World (at c a)) → Standing c w.scope s.sought → AlikeReference (at c a) (m.written (first (at c a) w)) (m'.written (second (at c a) w))
     pub assigned : {a : List Entered} (get get' : Run Value) → Alike (at c a) get get' → EvaluatesAlike a s.sought (m.assigned get) (m'.assigned get')
     pub initial : {a : List Entered} → EvaluatesAlike a s.sought m.initial m'.initial
     pub arguments : {a : List Entered} → EvaluatesAlike a s.sought m.arguments m'.arguments
@@ -108,6 +109,8 @@ module _ (c : Change) where
     pub targets : {a : List Entered} (v : Value) → EvaluatesAlike a s.sought (m.targets v) (m'.targets v)
     pub parameters : {a : List Entered} (arguments : List Value) → EvaluatesAlike a s.sought (m.parameters arguments) (m'.parameters arguments)
     pub completion : {a : List Entered} → EvaluatesAlike a s.sought m.completion m'.completion
+    -- where enums stand
+    pub member : {a : List Entered} → c.enums.has ≡ true → (leaves_out : Bool) (ids : List Id) → EvaluatesAlike a s.sought (m.member leaves_out ids) (m'.member leaves_out ids)
     pub varied : {a : List Entered} → EvaluatesAlike a s.sought m.varied m'.varied
     pub hoisted : {a : List Entered} → EvaluatesAlike a s.sought m.hoisted m'.hoisted
     pub last : {a : List Entered} → EvaluatesAlike a s.sought m.last m'.last
@@ -137,6 +140,7 @@ module _ (c : Change) where
     pub last_declared : m'.last_declared ≡ changed_ids c.names m.last_declared
     pub imported : (source : List ℕ) → m'.imported source ≡ changed_bindings c.names (m.imported source)
     pub text : KeepTexts c m.shorthands → m'.text ≡ m.text
+    pub member_texts : c.enums.has ≡ true → m'.member_texts ≡ m.member_texts
     pub exports : (source : Option (List ℕ)) → m'.exports source ≡ changed_exports c.names (m.exports source)
     pub cooked : m'.cooked ≡ m.cooked
     pub is_plain : m'.is_plain ≡ m.is_plain
@@ -162,6 +166,7 @@ module _ (c : Change) where
     any_seeking {m} {m'} {s} {s'} same = record {
       value = λ w z. same.value w stand;
       reference = λ w z. same.reference w stand;
+      written = λ w z. same.written w stand;
       assigned = λ get get' h w z. same.assigned get get' h w stand;
       initial = λ w z. same.initial w stand;
       arguments = λ w z. same.arguments w stand;
@@ -175,6 +180,7 @@ module _ (c : Change) where
       targets = λ v w z. same.targets v w stand;
       parameters = λ arguments w z. same.parameters arguments w stand;
       completion = λ w z. same.completion w stand;
+      member = λ has leaves_out ids w z. same.member has leaves_out ids w stand;
       varied = λ w z. same.varied w stand;
       hoisted = λ w z. same.hoisted w stand;
       last = λ w z. same.last w stand;
@@ -201,6 +207,7 @@ module _ (c : Change) where
       last_declared = same.last_declared;
       imported = same.imported;
       text = same.text;
+      member_texts = same.member_texts;
       exports = same.exports;
       cooked = same.cooked;
       is_plain = same.is_plain;
@@ -237,6 +244,9 @@ module _ (c : Change) where
 
   pub imports : (source name : List ℕ) (ids : List Id) → map (import_of source name) (changed_ids c.names ids) ≡ changed_bindings c.names (map (import_of source name) ids)
   imports source name ids = changed_bindings-map c.names (import_of source name) (λ id. refl) (λ id. refl) ids
+
+  pub unfilleds : (ids : List Id) → map unfilled (changed_ids c.names ids) ≡ changed_bindings c.names (map unfilled ids)
+  unfilleds ids = changed_bindings-map c.names unfilled (λ id. refl) (λ id. refl) ids
 
   pub undefineds : (ids : List Id) → map undefined (changed_ids c.names ids) ≡ changed_bindings c.names (map undefined ids)
   undefineds ids = changed_bindings-map c.names undefined (λ id. refl) (λ id. refl) ids

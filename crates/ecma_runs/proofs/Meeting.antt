@@ -24,9 +24,11 @@ use Rattle.ecma_runs.proofs.Alike.{Change}
 use Rattle.ecma_runs.proofs.Layer.{meaning-roll}
 use Rattle.ecma_runs.proofs.Premises.{renamed_kind, StillClash, KeptLayer, InBody, FunctionBody, OpensLayer}
 use Rattle.ecma_runs.proofs.Kept.{AllNodes, StepsAlike, layer_same, observe_unless}
-use Rattle.ecma_runs.proofs.Layers.{the_same, images_named, none_excused}
+use Rattle.ecma_runs.proofs.EnumTrees.{Lacks, lacks_parts, lacking_enums}
+use Rattle.ecma_runs.specs.Enums.{is_enum}
+use Rattle.ecma_runs.proofs.Layers.{the_same, without_enums, images_named, none_excused}
 use Rattle.ecma_runs.proofs.Standing.{Passes, passes_parts, BindingsPass, declares}
-use Rattle.ecma_runs.proofs.Renaming.{here_is, stay_first, stay_rest, stay_below}
+use Rattle.ecma_runs.proofs.Renaming.{here_is, stay_first, stay_rest, stay_below, renamed_none}
 
 both_true : (a b : Bool) → a && b ≡ true → (a ≡ true) × (b ≡ true)
 both_true true b h = (refl, h)
@@ -168,12 +170,17 @@ module _ (to : Id → Id) where
       let t = both_true (meets_by to x.kind (map (λ p. seeker p.node) (map (met to) x.children))) (list_all (λ p. p.meets) (map (met to) x.children)) (sym e ∙ h) in
       (subst (λ ms. meets_by to x.kind ms ≡ true) (seekers_of x.children) t.0, all_meet x.children t.1)
 
-module _ (to : Id → Id) (m : Node) (may : MayMeet to m) where
+module _ (to : Id → Id) (options : Config) (m : Node) (may : MayMeet to m) where
   abbrev names : Naming
   names = meeting to may.stands
 
+  abbrev Fine : Node → Type 0
+  Fine n = Passes may.stands n × TextsStay to (keys_in n) × ((met to n).meets ≡ true) × Lacks n
+
   abbrev change : Change
-  change = images_named (λ n. Passes may.stands n × TextsStay to (keys_in n) × ((met to n).meets ≡ true)) (renamed to) names (known_of m) may.free_texts the_same
+  change =
+      images_named Fine (renamed to) names (known_of options m) may.free_texts the_same
+      (without_enums Fine (renamed to) names true None (known_of options m).enums options.ts_enum_is_mutable (lacking_enums options m may.no_enums))
 
   opens : (ids inner : List Id) → catches_none to ids inner ≡ true → Opens names ids (outside_of ids inner) inner
   opens = opens_is to may.stands
@@ -247,34 +254,35 @@ module _ (to : Id → Id) (m : Node) (may : MayMeet to m) where
   second_true : (a b : Bool) → a && b ≡ true → b ≡ true
   second_true a b h = (both_true a b h).1
 
-  layer_kept : (k : Kind) (cs : List Node) → passes_by may.stands k ≡ true → AllNodes (Passes may.stands) cs → TextsStay to (at_keys k (map keys cs)) → meets_by to k (map seeker cs) ≡ true → KeptLayer change k (map meaning cs)
-  layer_kept (kind.Ident text ctxt optional) cs h p t b = (h, may.this_stays (record { sym = text; ctxt = ctxt }) h)
-  layer_kept kind.ExportDefaultExpr cs h p t b = may.default_stays
-  layer_kept kind.FnExpr cs h p t b = may.default_stays
-  layer_kept kind.ClassExpr cs h p t b = may.default_stays
-  layer_kept (kind.NamedExport type_only) (specifiers ∷ source ∷ attributes ∷ []) h p t b = listed source t
-  layer_kept (kind.ExportNamedSpecifier is_type_only) (exported ∷ name ∷ []) h p t b = (listed exported (stay_first to (keys exported).here (keys name).here t), listed name (stay_rest to (keys exported).here (keys name).here t))
-  layer_kept kind.ExportNamespaceSpecifier (name ∷ []) h p t b = listed name t
-  layer_kept kind.MemberExpr cs h p t b = refl
-  layer_kept kind.SuperPropExpr cs h p t b = refl
-  layer_kept kind.TsQualifiedName cs h p t b = refl
-  layer_kept kind.CallExpr cs h p t b = refl
-  layer_kept kind.OptCall cs h p t b = refl
-  layer_kept kind.NewExpr cs h p t b = refl
-  layer_kept kind.TsExternalModuleRef cs h p t b = refl
-  layer_kept kind.TsExportAssignment cs h p t b = refl
-  layer_kept (kind.TsImportEqualsDecl true false) (name ∷ source ∷ []) h p t b = (λ required. refl, listed name t)
-  layer_kept kind.KeyValuePatProp cs h p t b = refl
-  layer_kept kind.AssignPatProp (name ∷ default ∷ []) h p t b = (refl, listed name t)
-  layer_kept kind.ObjectLit (properties ∷ []) h p t b = listed properties t
-  layer_kept (kind.Class is_abstract) (super ∷ body ∷ types ∷ super_types ∷ implements ∷ []) h p t b = listed body t
-  layer_kept (kind.ImportDecl type_only) (specifiers ∷ source ∷ attributes ∷ []) h p t b = listed source t
-  layer_kept (kind.ImportNamedSpecifier is_type_only) (local ∷ name ∷ []) h p t b = (listed local (stay_first to (keys local).here (keys name).here t), listed name (stay_rest to (keys local).here (keys name).here t))
-  layer_kept (kind.Function false false) (parameters ∷ body ∷ types ∷ return_type ∷ []) h p t b = still parameters body p.1.0 (second_true _ _ b)
-  layer_kept (kind.ArrowExpr false false) (parameters ∷ body ∷ types ∷ return_type ∷ []) h p t b = still parameters body p.1.0 (second_true _ _ b)
-  layer_kept kind.SetterProp (key ∷ this_parameter ∷ parameter ∷ body ∷ []) h p t b = still parameter body p.1.1.1.0 (second_true _ _ b)
-  layer_kept (kind.Constructor accessibility is_optional) (key ∷ parameters ∷ body ∷ []) h p t b = still parameters body p.1.1.0 b
-  layer_kept _ cs h p t b = tt
+  layer_kept : (k : Kind) (cs : List Node) → passes_by may.stands k ≡ true → AllNodes (Passes may.stands) cs → TextsStay to (at_keys k (map keys cs)) → meets_by to k (map seeker cs) ≡ true → not (is_enum k) ≡ true → KeptLayer change k (map meaning cs)
+  layer_kept (kind.Ident text ctxt optional) cs h p t b e = (h, may.this_stays (record { sym = text; ctxt = ctxt }) h)
+  layer_kept kind.ExportDefaultExpr cs h p t b e = may.default_stays
+  layer_kept kind.FnExpr cs h p t b e = may.default_stays
+  layer_kept kind.ClassExpr cs h p t b e = may.default_stays
+  layer_kept (kind.NamedExport type_only) (specifiers ∷ source ∷ attributes ∷ []) h p t b e = listed source t
+  layer_kept (kind.ExportNamedSpecifier is_type_only) (exported ∷ name ∷ []) h p t b e = (listed exported (stay_first to (keys exported).here (keys name).here t), listed name (stay_rest to (keys exported).here (keys name).here t))
+  layer_kept kind.ExportNamespaceSpecifier (name ∷ []) h p t b e = listed name t
+  layer_kept kind.MemberExpr cs h p t b e = refl
+  layer_kept kind.SuperPropExpr cs h p t b e = refl
+  layer_kept kind.TsQualifiedName cs h p t b e = refl
+  layer_kept kind.CallExpr cs h p t b e = refl
+  layer_kept kind.OptCall cs h p t b e = refl
+  layer_kept kind.NewExpr cs h p t b e = refl
+  layer_kept kind.TsExternalModuleRef cs h p t b e = refl
+  layer_kept kind.TsExportAssignment cs h p t b e = refl
+  layer_kept (kind.TsImportEqualsDecl true false) (name ∷ source ∷ []) h p t b e = (λ required. refl, listed name t)
+  layer_kept kind.KeyValuePatProp cs h p t b e = refl
+  layer_kept kind.AssignPatProp (name ∷ default ∷ []) h p t b e = (refl, listed name t)
+  layer_kept kind.ObjectLit (properties ∷ []) h p t b e = listed properties t
+  layer_kept (kind.Class is_abstract) (super ∷ body ∷ types ∷ super_types ∷ implements ∷ []) h p t b e = listed body t
+  layer_kept (kind.ImportDecl type_only) (specifiers ∷ source ∷ attributes ∷ []) h p t b e = listed source t
+  layer_kept (kind.ImportNamedSpecifier is_type_only) (local ∷ name ∷ []) h p t b e = (listed local (stay_first to (keys local).here (keys name).here t), listed name (stay_rest to (keys local).here (keys name).here t))
+  layer_kept (kind.Function false false) (parameters ∷ body ∷ types ∷ return_type ∷ []) h p t b e = still parameters body p.1.0 (second_true _ _ b)
+  layer_kept (kind.ArrowExpr false false) (parameters ∷ body ∷ types ∷ return_type ∷ []) h p t b e = still parameters body p.1.0 (second_true _ _ b)
+  layer_kept kind.SetterProp (key ∷ this_parameter ∷ parameter ∷ body ∷ []) h p t b e = still parameter body p.1.1.1.0 (second_true _ _ b)
+  layer_kept (kind.Constructor accessibility is_optional) (key ∷ parameters ∷ body ∷ []) h p t b e = still parameters body p.1.1.0 b
+  layer_kept (kind.TsEnumDecl false is_const) cs h p t b e = absurd (cc)
+  layer_kept _ cs h p t b e = tt
 
   kind_renamed : (k : Kind) → renamed_kind change k ≡ renamed_ident to k
   kind_renamed (kind.Ident text ctxt optional) = refl
@@ -286,17 +294,18 @@ module _ (to : Id → Id) (m : Node) (may : MayMeet to m) where
       let e : renamed to (roll-Node x) ≡ roll-Node y = fold-roll-Node Node (renamed_node to) x in
       rw (e, kind_renamed x.kind) (meaning-roll y)
 
-  three_all : (cs : List Node) → AllNodes (Passes may.stands) cs → AllNodes (λ n. TextsStay to (keys_in n)) cs → AllNodes (λ n. (met to n).meets ≡ true) cs → AllNodes change.fine cs
-  three_all [] p q r = tt
-  three_all (n ∷ cs) p q r = ((p.0, q.0, r.0), three_all cs p.1 q.1 r.1)
+  four_all : (cs : List Node) → AllNodes (Passes may.stands) cs → AllNodes (λ n. TextsStay to (keys_in n)) cs → AllNodes (λ n. (met to n).meets ≡ true) cs → AllNodes Lacks cs → AllNodes change.fine cs
+  four_all [] p q r l = tt
+  four_all (n ∷ cs) p q r l = ((p.0, q.0, r.0, l.0), four_all cs p.1 q.1 r.1 l.1)
 
   steps : StepsAlike change
   steps x ns is fine fine' =
       let t = passes_parts may.stands x fine.0 in
       let z : TextsStay to (at_keys x.kind (map keys x.children) ++ all_below (map keys x.children)) = subst (λ z. TextsStay to z.all) (fold-roll-Node Keys keys_by x) fine.1 in
       let r = meets_parts to x fine.2 in
-      layer_same change x ns is fine (three_all x.children t.1 (stay_below to x.children (stay_rest to (at_keys x.kind (map keys x.children)) (all_below (map keys x.children)) z)) r.1)
-      (layer_kept x.kind x.children t.0 t.1 (stay_first to (at_keys x.kind (map keys x.children)) (all_below (map keys x.children)) z) r.0) (layer_opens x.kind (map seeker x.children) r.0) (renamed_layer x)
+      let l = lacks_parts x fine.3 in
+      layer_same change x ns is fine (four_all x.children t.1 (stay_below to x.children (stay_rest to (at_keys x.kind (map keys x.children)) (all_below (map keys x.children)) z)) r.1 l.1)
+      (layer_kept x.kind x.children t.0 t.1 (stay_first to (at_keys x.kind (map keys x.children)) (all_below (map keys x.children)) z) r.0 l.0) (layer_opens x.kind (map seeker x.children) r.0) (renamed_layer x)
 
   -- what the module declares nowhere is told from what it declares
   free_told : catches_none to (meaning m).declared (outside_of (meaning m).declared (sought_in m).sought) ≡ true → (id : Id) → is_among id (outside_of (ids_of (meaning m).locals) (sought_in m).sought) ≡ true
@@ -324,12 +333,12 @@ module _ (to : Id → Id) (m : Node) (may : MayMeet to m) where
         ((declares may.stands m may.all_stand).exports None may.default_stays.0) may.export_texts may.exports_apart;
   }
 
-  pub meeting_kept : (turns : ℕ) (options : Config) (script : Script) → observe turns options (renamed to m) script ≡ observe turns options m script
-  meeting_kept turns options script =
+  pub meeting_kept : (turns : ℕ) (script : Script) → observe turns options (renamed to m) script ≡ observe turns options m script
+  meeting_kept turns script =
       let t = both_true (catches_none to (ids_of (meaning m).locals) (sought_in m).sought) (catches_none to (meaning m).declared (outside_of (meaning m).declared (sought_in m).sought)) may.in_module in
       ap (λ n. observe n options (renamed to m) script) (sym (add-zero turns))
-      ∙ observe_unless change refl steps refl refl turns options m script (may.all_stand, may.key_texts, may.none_caught) refl
+      ∙ observe_unless change refl steps refl refl turns options m script (may.all_stand, may.key_texts, may.none_caught, may.no_enums) refl (renamed_none to options m may.no_enums)
       (opens (ids_of (meaning m).locals) (sought_in m).sought t.0, record { free = free_told t.1 }, tt, kept_exports) tt tt (none_excused _)
 
 pub names_may_meet : NamesMayMeet
-names_may_meet turns options m script to may = meeting_kept to m may turns options script
+names_may_meet turns options m script to may = meeting_kept to options m may turns script

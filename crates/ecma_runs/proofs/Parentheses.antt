@@ -9,7 +9,9 @@ use Rattle.ecma_runs.specs.Evaluation.{role_by, ending_chain, no_effect, meaning
 use Rattle.ecma_runs.specs.Wrappers.{is_chain_by, is_chain_step, is_chain, opened_by, opened, without_parentheses}
 use Rattle.ecma_runs.specs.Laws.{ParenthesesDoNotMatter}
 use Rattle.ecma_runs.proofs.Layer.{meaning-roll}
-use Rattle.ecma_runs.proofs.Layers.{rewritten_layers, observe_kept}
+use Rattle.ecma_runs.proofs.EnumTrees.{Lacks, lacks_layer, rewritten_lacks}
+use Rattle.ecma_runs.proofs.Kept.{AllNodes}
+use Rattle.ecma_runs.proofs.Layers.{rewritten_layers, observe_lacking}
 
 -- it is no link of a chain: what stands before another link is what it refers to
 abbrev Ends : Meaning → Type 0
@@ -38,6 +40,8 @@ ends_layer n kind.TsTypeParamInstantiation ns h = refl
 ends_layer n kind.TsQualifiedName (left ∷ right ∷ []) h = refl
 ends_layer n (kind.TsImportEqualsDecl false false) (name ∷ source ∷ []) h = refl
 ends_layer n (kind.TsImportEqualsDecl true false) (name ∷ source ∷ []) h = ends_either (meaning source.0).is_required _ _ refl refl
+ends_layer n (kind.TsEnumDecl false is_const) (name ∷ members ∷ []) h = refl
+ends_layer n kind.TsEnumMember (name ∷ init ∷ []) h = refl
 ends_layer n k ns h = ends_either (has_no_effect k (map meaning (map (λ e. e.0) ns))) (no_effect n) (role_by n k (map meaning (map (λ e. e.0) ns))) refl refl
 
 ends_unless : (n : Node) → EndsUnless n
@@ -54,5 +58,17 @@ opened_meaning : (x : Node-F Node) (k : Kind) (cs : List Node) → x.kind ≡ k 
 opened_meaning x kind.ParenExpr (e ∷ []) is are = paren_meaning x e (is_chain e) refl is are
 opened_meaning x k cs is are = meaning-roll x ∙ ap (λ z. meaning_by (roll-Node x) z (map meaning x.children)) is ∙ ap (λ z. meaning_by (roll-Node x) k (map meaning z)) are
 
+-- a tree without enums has none without them
+
+opened_one : (x : Node-F Node) (e : Node) (b : Bool) → Lacks (roll-Node x) → Lacks e → Lacks (cond b (roll-Node x) e)
+opened_one x e true whole inside = whole
+opened_one x e false whole inside = inside
+
+opened_lacks : (x : Node-F Node) (k : Kind) (cs : List Node) → Lacks (roll-Node x) → AllNodes Lacks cs → Lacks (opened_by k cs x)
+opened_lacks x kind.ParenExpr (e ∷ []) whole below = opened_one x e (is_chain e) whole below.0
+opened_lacks x k cs whole below = whole
+
 pub parentheses_do_not_matter : ParenthesesDoNotMatter
-parentheses_do_not_matter = observe_kept without_parentheses (rewritten_layers opened (λ x. opened_meaning x x.kind x.children refl refl))
+parentheses_do_not_matter =
+    observe_lacking without_parentheses (rewritten_layers opened (λ x. opened_meaning x x.kind x.children refl refl))
+    (rewritten_lacks opened (λ x here below. opened_lacks x x.kind x.children (lacks_layer x here below) below))

@@ -7,7 +7,7 @@ use Rattle.ecma_runs.specs.Values.{Value, is_undefined, is_nullish}
 use Rattle.ecma_runs.specs.State.{Entered}
 use Rattle.ecma_runs.specs.Run.{Run, ◌>>=◌, give, given}
 use Rattle.ecma_runs.specs.Functions.{write, first_or_undefined, all_but_first}
-use Rattle.ecma_runs.specs.Expressions.{reference_of}
+use Rattle.ecma_runs.specs.Expressions.{written_of}
 use Rattle.ecma_runs.specs.Patterns.{or_default, assigned_of, all_targets, targets_of, all_matched, matched_of, bound_of, all_parameters, parameters_of}
 use Rattle.ecma_runs.specs.Sought.{meanings, all_sought, sought_of}
 use Rattle.ecma_runs.proofs.Scopes.{one, two}
@@ -18,7 +18,7 @@ use Rattle.ecma_runs.proofs.Members.{member_alike}
 use Rattle.ecma_runs.proofs.Functions.{write_alike}
 use Rattle.ecma_runs.proofs.Premises.{renamed_kind, KeptLayer, PlacedNode}
 use Rattle.ecma_runs.proofs.Lists.{all_stay, all_targets_alike, all_matched_alike, all_parameters_alike}
-use Rattle.ecma_runs.proofs.Expressions.{reference_alike}
+use Rattle.ecma_runs.proofs.Expressions.{written_alike}
 
 module _ (c : Change) {a : List Entered} (w : World (at c a)) where
   abbrev d : Change
@@ -29,10 +29,10 @@ module _ (c : Change) {a : List Entered} (w : World (at c a)) where
 
   module _ (n : Node) (fine : c.fine n) where
     write_target_alike : (k : Kind) (ps : List (Both c)) → KeptLayer c k (firsts c ps) → PlacedNode c n w.scope k (seekers c ps) → {get get' : Run Value} → Alike d get get'
-        → Alike d (reference_of n k (firsts c ps) (first d w) >>= λ r. get >>= λ v. write (first d w) r v >>= λ _. give v)
-        (reference_of (c.node n) (renamed_kind c k) (seconds c ps) (second d w) >>= λ r. get' >>= λ v. write (second d w) r v >>= λ _. give v)
+        → Alike d (written_of n k (firsts c ps) (first d w) >>= λ r. get >>= λ v. write (first d w) r v >>= λ _. give v)
+        (written_of (c.node n) (renamed_kind c k) (seconds c ps) (second d w) >>= λ r. get' >>= λ v. write (second d w) r v >>= λ _. give v)
     write_target_alike k ps kept p {get' = get'} h =
-        bind_by d (λ r. get' >>= λ v. write (second d w) r v >>= λ _. give v) (reference_alike c w n fine k ps kept p) (λ r q. bind_alike d h (λ v. bind_alike d (write_alike d w r q v) (λ _. give_alike d v)))
+        bind_by d (λ r. get' >>= λ v. write (second d w) r v >>= λ _. give v) (written_alike c w n fine k ps kept p) (λ r q. bind_alike d h (λ v. bind_alike d (write_alike d w r q v) (λ _. give_alike d v)))
 
     pub assigned_alike : (k : Kind) (ps : List (Both c)) → KeptLayer c k (firsts c ps) → PlacedNode c n w.scope k (seekers c ps) → (get get' : Run Value) → Alike d get get'
         → Alike d (assigned_of n k (firsts c ps) get (first d w)) (assigned_of (c.node n) (renamed_kind c k) (seconds c ps) get' (second d w))

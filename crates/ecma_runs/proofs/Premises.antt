@@ -31,8 +31,8 @@ module _ (c : Change) where
   abbrev pub StillClash : Meaning → Meaning → Type 0
   StillClash parameters body = have_one_of (changed_ids c.names parameters.names) (changed_bindings c.names body.locals) ≡ have_one_of parameters.names body.locals
 
-  -- names are kept, shorthands keep their texts, what uses host values and functions stands only where they may be used, and what passes a function over where
-  -- the other run does
+  -- names are kept, shorthands keep their texts, what uses host values and functions stands only where they may be used, what passes a function over where
+  -- the other run does, and an enum where enums may stand
   abbrev pub KeptLayer : Kind → List Meaning → Type 0
   KeptLayer (kind.Ident sym ctxt optional) ms =
       (c.names.kept (record { sym = sym; ctxt = ctxt }) ≡ true) × (bytes_eq (c.names.to (record { sym = sym; ctxt = ctxt })).sym (codes "this") ≡ bytes_eq sym (codes "this"))
@@ -56,6 +56,7 @@ module _ (c : Change) where
   KeptLayer kind.SetterProp (key ∷ this_parameter ∷ parameter ∷ body ∷ []) = StillClash parameter body
   KeptLayer (kind.Constructor accessibility is_optional) (key ∷ parameters ∷ body ∷ []) = StillClash parameters body
   KeptLayer kind.TsModuleBlock ms = PassesToo c.passed ms
+  KeptLayer (kind.TsEnumDecl false is_const) ms = c.enums.has ≡ true
   KeptLayer kind.ExportDefaultExpr ms = KeepsDefault c.names
   KeptLayer kind.FnExpr ms = KeepsDefault c.names
   KeptLayer kind.ClassExpr ms = KeepsDefault c.names

@@ -1,5 +1,5 @@
 -- Names do not matter: a map of names that is one to one keeps runs.
-use Rattle.std.proofs.Common.{◌≡◌, ℕ, ◌++◌, refl, sym, ap, ap₂, ◌∙◌, subst, List, [], ◌∷◌, map, None, Bool, true, false, cond, add-zero}
+use Rattle.std.proofs.Common.{◌≡◌, ℕ, ◌++◌, refl, sym, ap, ap₂, ◌∙◌, subst, List, [], ◌∷◌, map, None, Bool, true, false, not, cond, add-zero}
 use Rattle.ecma_kind.specs.declared.kind.Kind.{Kind}
 use Rattle.ecma_kind.specs.declared.kind.Kind.TheVariants as kind
 use Rattle.ecma_tree.specs.declared.node.Node.{Node, Node-F, fold-roll-Node, ind-Node, roll-Node}
@@ -10,7 +10,9 @@ use Rattle.ecma_runs.specs.Environment.{ids_of, have_one_of}
 use Rattle.ecma_runs.specs.Meaning.{Meaning}
 use Rattle.ecma_runs.specs.Declarations.{all_shorthands, has_no_effect}
 use Rattle.ecma_runs.specs.Evaluation.{role_by, no_effect, meaning_by, meaning}
-use Rattle.ecma_runs.specs.Observation.{known_of, exports_in, observe}
+use Rattle.ecma_runs.specs.Observation.{enums_of, known_of, exports_in, observe}
+use Rattle.ecma_runs.specs.Enums.{is_enum}
+use Rattle.ecma_runs.proofs.EnumTrees.{Lacks, lacks_parts, lacks_layer, rewritten_lacks, lacking_enums}
 use Rattle.ecma_runs.proofs.Exports.{keeps_plain}
 use Rattle.ecma_runs.specs.Names.{renamed_ident, renamed_node, renamed, passes_by, Keys, all_here, all_below, here_by, at_keys, keys_by, keys, keys_in, TextsStay, IsRenaming}
 use Rattle.ecma_runs.specs.Laws.{NamesDoNotMatter}
@@ -19,7 +21,7 @@ use Rattle.ecma_runs.proofs.Names.{Naming, changed_ids, changed_bindings, is_amo
 use Rattle.ecma_runs.proofs.Alike.{Change}
 use Rattle.ecma_runs.proofs.Premises.{renamed_kind, StillClash, KeptLayer}
 use Rattle.ecma_runs.proofs.Kept.{AllNodes, StepsAlike, layer_same, observe_unless}
-use Rattle.ecma_runs.proofs.Layers.{the_same, images_named, none_excused}
+use Rattle.ecma_runs.proofs.Layers.{the_same, without_enums, images_named, none_excused}
 use Rattle.ecma_runs.proofs.Standing.{Passes, passes_parts, BindingsPass, declares}
 
 -- the identifiers that a meaning lists are those of the node
@@ -53,6 +55,8 @@ here_layer n kind.TsTypeParamInstantiation ns = refl
 here_layer n kind.TsQualifiedName (left ∷ right ∷ []) = refl
 here_layer n (kind.TsImportEqualsDecl false false) (name ∷ source ∷ []) = refl
 here_layer n (kind.TsImportEqualsDecl true false) (name ∷ source ∷ []) = none_listed (meaning source.0).is_required _ _ refl refl
+here_layer n (kind.TsEnumDecl false is_const) (name ∷ members ∷ []) = refl
+here_layer n kind.TsEnumMember (name ∷ init ∷ []) = refl
 here_layer n k ns = none_listed (has_no_effect k (map meaning (map (λ e. e.0) ns))) (no_effect n) (role_by n k (map meaning (map (λ e. e.0) ns))) refl refl
 
 pub here_is : (n : Node) → Listed n
@@ -75,16 +79,34 @@ pub stay_below : (to : Id → Id) (cs : List Node) → TextsStay to (all_below (
 stay_below to [] h = tt
 stay_below to (n ∷ cs) h = (stay_first to (keys_in n) (all_below (map keys cs)) h, stay_below to cs (stay_rest to (keys_in n) (all_below (map keys cs)) h))
 
-module _ (to : Id → Id) (m : Node) (renaming : IsRenaming to m) where
+-- a tree without enums has none with its names changed
+
+renamed_enum : (to : Id → Id) (k : Kind) → is_enum (renamed_ident to k) ≡ is_enum k
+renamed_enum to (kind.Ident sym ctxt optional) = refl
+renamed_enum to _ = refl
+
+pub renamed_lacks : (to : Id → Id) (n : Node) → Lacks n → Lacks (renamed to n)
+renamed_lacks to =
+    rewritten_lacks (renamed_node to) (λ x here below. lacks_layer (record { span = x.span; kind = renamed_ident to x.kind; children = x.children }) (ap not (renamed_enum to x.kind) ∙ here) below)
+
+pub renamed_none : (to : Id → Id) (options : Config) (m : Node) → Lacks m → enums_of options (renamed to m) ≡ enums_of options m
+renamed_none to options m lacks = lacking_enums options (renamed to m) (renamed_lacks to m lacks) ∙ sym (lacking_enums options m lacks)
+
+module _ (to : Id → Id) (options : Config) (m : Node) (renaming : IsRenaming to m) where
   abbrev new_names : Naming
   new_names = record { to = to; kept = renaming.stands; plain = true; injective = λ is. renaming.one_to_one }
 
-  abbrev renaming_change : Change
-  renaming_change = images_named (λ n. Passes renaming.stands n × TextsStay to (keys_in n)) (renamed to) new_names (known_of m) renaming.free_texts the_same
+  abbrev Fine : Node → Type 0
+  Fine n = Passes renaming.stands n × TextsStay to (keys_in n) × Lacks n
 
-  both_all : (cs : List Node) → AllNodes (Passes renaming.stands) cs → AllNodes (λ n. TextsStay to (keys_in n)) cs → AllNodes (λ n. Passes renaming.stands n × TextsStay to (keys_in n)) cs
-  both_all [] p q = tt
-  both_all (n ∷ cs) p q = ((p.0, q.0), both_all cs p.1 q.1)
+  abbrev renaming_change : Change
+  renaming_change =
+      images_named Fine (renamed to) new_names (known_of options m) renaming.free_texts the_same
+      (without_enums Fine (renamed to) new_names true None (known_of options m).enums options.ts_enum_is_mutable (lacking_enums options m renaming.no_enums))
+
+  three_all : (cs : List Node) → AllNodes (Passes renaming.stands) cs → AllNodes (λ n. TextsStay to (keys_in n)) cs → AllNodes Lacks cs → AllNodes Fine cs
+  three_all [] p q r = tt
+  three_all (n ∷ cs) p q r = ((p.0, q.0, r.0), three_all cs p.1 q.1 r.1)
 
   kind_renamed : (k : Kind) → renamed_kind renaming_change k ≡ renamed_ident to k
   kind_renamed (kind.Ident text ctxt optional) = refl
@@ -104,34 +126,35 @@ module _ (to : Id → Id) (m : Node) (renaming : IsRenaming to m) where
   listed : (n : Node) → TextsStay to (keys n).here → TextsStay to (meaning n).shorthands
   listed n h = subst (TextsStay to) (sym (here_is n)) h
 
-  layer_kept : (k : Kind) (cs : List Node) → passes_by renaming.stands k ≡ true → AllNodes (Passes renaming.stands) cs → TextsStay to (at_keys k (map keys cs)) → KeptLayer renaming_change k (map meaning cs)
-  layer_kept (kind.Ident text ctxt optional) cs h p t = (h, renaming.this_stays (record { sym = text; ctxt = ctxt }) h)
-  layer_kept kind.ExportDefaultExpr cs h p t = renaming.default_stays
-  layer_kept kind.FnExpr cs h p t = renaming.default_stays
-  layer_kept kind.ClassExpr cs h p t = renaming.default_stays
-  layer_kept (kind.NamedExport type_only) (specifiers ∷ source ∷ attributes ∷ []) h p t = listed source t
-  layer_kept (kind.ExportNamedSpecifier is_type_only) (exported ∷ name ∷ []) h p t = (listed exported (stay_first to (keys exported).here (keys name).here t), listed name (stay_rest to (keys exported).here (keys name).here t))
-  layer_kept kind.ExportNamespaceSpecifier (name ∷ []) h p t = listed name t
-  layer_kept kind.MemberExpr cs h p t = refl
-  layer_kept kind.SuperPropExpr cs h p t = refl
-  layer_kept kind.TsQualifiedName cs h p t = refl
-  layer_kept kind.CallExpr cs h p t = refl
-  layer_kept kind.OptCall cs h p t = refl
-  layer_kept kind.NewExpr cs h p t = refl
-  layer_kept kind.TsExternalModuleRef cs h p t = refl
-  layer_kept kind.TsExportAssignment cs h p t = refl
-  layer_kept (kind.TsImportEqualsDecl true false) (name ∷ source ∷ []) h p t = (λ required. refl, listed name t)
-  layer_kept kind.KeyValuePatProp cs h p t = refl
-  layer_kept kind.AssignPatProp (name ∷ default ∷ []) h p t = (refl, listed name t)
-  layer_kept kind.ObjectLit (properties ∷ []) h p t = listed properties t
-  layer_kept (kind.Class is_abstract) (super ∷ body ∷ types ∷ super_types ∷ implements ∷ []) h p t = listed body t
-  layer_kept (kind.ImportDecl type_only) (specifiers ∷ source ∷ attributes ∷ []) h p t = listed source t
-  layer_kept (kind.ImportNamedSpecifier is_type_only) (local ∷ name ∷ []) h p t = (listed local (stay_first to (keys local).here (keys name).here t), listed name (stay_rest to (keys local).here (keys name).here t))
-  layer_kept (kind.Function false false) (parameters ∷ body ∷ types ∷ return_type ∷ []) h p t = still parameters body p.1.0
-  layer_kept (kind.ArrowExpr false false) (parameters ∷ body ∷ types ∷ return_type ∷ []) h p t = still parameters body p.1.0
-  layer_kept kind.SetterProp (key ∷ this_parameter ∷ parameter ∷ body ∷ []) h p t = still parameter body p.1.1.1.0
-  layer_kept (kind.Constructor accessibility is_optional) (key ∷ parameters ∷ body ∷ []) h p t = still parameters body p.1.1.0
-  layer_kept _ cs h p t = tt
+  layer_kept : (k : Kind) (cs : List Node) → passes_by renaming.stands k ≡ true → AllNodes (Passes renaming.stands) cs → TextsStay to (at_keys k (map keys cs)) → not (is_enum k) ≡ true → KeptLayer renaming_change k (map meaning cs)
+  layer_kept (kind.Ident text ctxt optional) cs h p t e = (h, renaming.this_stays (record { sym = text; ctxt = ctxt }) h)
+  layer_kept kind.ExportDefaultExpr cs h p t e = renaming.default_stays
+  layer_kept kind.FnExpr cs h p t e = renaming.default_stays
+  layer_kept kind.ClassExpr cs h p t e = renaming.default_stays
+  layer_kept (kind.NamedExport type_only) (specifiers ∷ source ∷ attributes ∷ []) h p t e = listed source t
+  layer_kept (kind.ExportNamedSpecifier is_type_only) (exported ∷ name ∷ []) h p t e = (listed exported (stay_first to (keys exported).here (keys name).here t), listed name (stay_rest to (keys exported).here (keys name).here t))
+  layer_kept kind.ExportNamespaceSpecifier (name ∷ []) h p t e = listed name t
+  layer_kept kind.MemberExpr cs h p t e = refl
+  layer_kept kind.SuperPropExpr cs h p t e = refl
+  layer_kept kind.TsQualifiedName cs h p t e = refl
+  layer_kept kind.CallExpr cs h p t e = refl
+  layer_kept kind.OptCall cs h p t e = refl
+  layer_kept kind.NewExpr cs h p t e = refl
+  layer_kept kind.TsExternalModuleRef cs h p t e = refl
+  layer_kept kind.TsExportAssignment cs h p t e = refl
+  layer_kept (kind.TsImportEqualsDecl true false) (name ∷ source ∷ []) h p t e = (λ required. refl, listed name t)
+  layer_kept kind.KeyValuePatProp cs h p t e = refl
+  layer_kept kind.AssignPatProp (name ∷ default ∷ []) h p t e = (refl, listed name t)
+  layer_kept kind.ObjectLit (properties ∷ []) h p t e = listed properties t
+  layer_kept (kind.Class is_abstract) (super ∷ body ∷ types ∷ super_types ∷ implements ∷ []) h p t e = listed body t
+  layer_kept (kind.ImportDecl type_only) (specifiers ∷ source ∷ attributes ∷ []) h p t e = listed source t
+  layer_kept (kind.ImportNamedSpecifier is_type_only) (local ∷ name ∷ []) h p t e = (listed local (stay_first to (keys local).here (keys name).here t), listed name (stay_rest to (keys local).here (keys name).here t))
+  layer_kept (kind.Function false false) (parameters ∷ body ∷ types ∷ return_type ∷ []) h p t e = still parameters body p.1.0
+  layer_kept (kind.ArrowExpr false false) (parameters ∷ body ∷ types ∷ return_type ∷ []) h p t e = still parameters body p.1.0
+  layer_kept kind.SetterProp (key ∷ this_parameter ∷ parameter ∷ body ∷ []) h p t e = still parameter body p.1.1.1.0
+  layer_kept (kind.Constructor accessibility is_optional) (key ∷ parameters ∷ body ∷ []) h p t e = still parameters body p.1.1.0
+  layer_kept (kind.TsEnumDecl false is_const) cs h p t e = absurd (cc)
+  layer_kept _ cs h p t e = tt
 
   renamed_layer : (x : Node-F Node) → meaning (renamed to (roll-Node x)) ≡ meaning_by (renamed to (roll-Node x)) (renamed_kind renaming_change x.kind) (map meaning (map (renamed to) x.children))
   renamed_layer x =
@@ -143,13 +166,14 @@ module _ (to : Id → Id) (m : Node) (renaming : IsRenaming to m) where
   renaming_steps x ns is fine fine' =
       let t = passes_parts renaming.stands x fine.0 in
       let z : TextsStay to (at_keys x.kind (map keys x.children) ++ all_below (map keys x.children)) = subst (λ z. TextsStay to z.all) (fold-roll-Node Keys keys_by x) fine.1 in
-      layer_same renaming_change x ns is fine (both_all x.children t.1 (stay_below to x.children (stay_rest to (at_keys x.kind (map keys x.children)) (all_below (map keys x.children)) z)))
-      (layer_kept x.kind x.children t.0 t.1 (stay_first to (at_keys x.kind (map keys x.children)) (all_below (map keys x.children)) z)) tt (renamed_layer x)
+      let r = lacks_parts x fine.2 in
+      layer_same renaming_change x ns is fine (three_all x.children t.1 (stay_below to x.children (stay_rest to (at_keys x.kind (map keys x.children)) (all_below (map keys x.children)) z)) r.1)
+      (layer_kept x.kind x.children t.0 t.1 (stay_first to (at_keys x.kind (map keys x.children)) (all_below (map keys x.children)) z) r.0) tt (renamed_layer x)
 
-  pub renamed_kept : (turns : ℕ) (options : Config) (script : Script) → observe turns options (renamed to m) script ≡ observe turns options m script
-  renamed_kept turns options script =
-      ap (λ n. observe n options (renamed to m) script) (sym (add-zero turns)) ∙ observe_unless renaming_change refl renaming_steps refl refl turns options m script (renaming.all_stand, renaming.key_texts) refl
+  pub renamed_kept : (turns : ℕ) (script : Script) → observe turns options (renamed to m) script ≡ observe turns options m script
+  renamed_kept turns script =
+      ap (λ n. observe n options (renamed to m) script) (sym (add-zero turns)) ∙ observe_unless renaming_change refl renaming_steps refl refl turns options m script (renaming.all_stand, renaming.key_texts, renaming.no_enums) refl (renamed_none to options m renaming.no_enums)
       (tt, record { free = tt }, tt, keeps_plain new_names refl (ids_of (meaning m).locals) (exports_in m) ((declares renaming.stands m renaming.all_stand).exports None renaming.default_stays.0) renaming.export_texts) tt tt (none_excused _)
 
 pub names_do_not_matter : NamesDoNotMatter
-names_do_not_matter turns options m script to renaming = renamed_kept to m renaming turns options script
+names_do_not_matter turns options m script to renaming = renamed_kept to options m renaming turns script

@@ -7,7 +7,7 @@ use Rattle.ecma_kind.specs.declared.operators.AssignOp.TheVariants.{Assign}
 use Rattle.ecma_kind.specs.declared.operators.VarDeclKind.TheVariants.{Var, Let, Const}
 use Rattle.ecma_tree.specs.declared.node.Node.{Node, Node-F, fold-roll-Node, ind-Node, roll-Node}
 use Rattle.ecma_runs.specs.State.{Id, default_name, Binding}
-use Rattle.ecma_runs.specs.Environment.{empty, undefined, import_of}
+use Rattle.ecma_runs.specs.Environment.{empty, undefined, unfilled, import_of}
 use Rattle.ecma_runs.specs.Meaning.{Meaning}
 use Rattle.ecma_runs.specs.Declarations.{all_names, names_of, name_or_default, default_names_of, all_imported, imported_as, imported_of, imported_from, all_lexicals, lexicals_of, all_vars, vars_of, locals_of, has_no_effect, all_exports, exported_from, exports_of}
 use Rattle.ecma_runs.specs.Evaluation.{role_by, no_effect, free_meaning, text_key, constant_meaning, set_export, meaning_by, meaning}
@@ -65,6 +65,10 @@ module _ (test : Id → Bool) where
   undefineds_pass : (ids : List Id) → NamesPass ids → BindingsPass (map undefined ids)
   undefineds_pass [] p = tt
   undefineds_pass (id ∷ ids) p = (p.0, undefineds_pass ids p.1)
+
+  unfilleds_pass : (ids : List Id) → NamesPass ids → BindingsPass (map unfilled ids)
+  unfilleds_pass [] p = tt
+  unfilleds_pass (id ∷ ids) p = (p.0, unfilleds_pass ids p.1)
 
   imports_pass : (source name : List ℕ) (ids : List Id) → NamesPass ids → BindingsPass (map (import_of source name) ids)
   imports_pass source name [] p = tt
@@ -153,6 +157,7 @@ module _ (test : Id → Bool) where
   lexicals_pass (kind.FnDecl false) (name ∷ function ∷ []) default = empties_pass false name.0.names name.1.names
   lexicals_pass (kind.ClassDecl false) (name ∷ class ∷ []) default = empties_pass false name.0.names name.1.names
   lexicals_pass kind.SwitchCase (test ∷ statements ∷ []) default = statements.1.lexicals default
+  lexicals_pass (kind.TsEnumDecl false is_const) (name ∷ members ∷ []) default = unfilleds_pass name.0.names name.1.names
   lexicals_pass kind.ExportDecl (declaration ∷ []) default = declaration.1.lexicals default
   lexicals_pass kind.ExportDefaultExpr (e ∷ []) default = (default, tt)
   lexicals_pass kind.ExportDefaultDecl (declaration ∷ []) default = empties_pass false declaration.0.default_names (declaration.1.default_names default)
@@ -265,6 +270,12 @@ module _ (test : Id → Bool) where
   layer_declares n (kind.TsImportEqualsDecl true false) (name ∷ source ∷ []) h =
       either_declares source.0.is_required (constant_meaning n name.0 (set_export n name.0 source.0)) (role_by n kind.ExportDecl (constant_meaning n name.0 source.0 ∷ []))
       (constant_declares n name (export_part n name source)) (role_declares n kind.ExportDecl ((constant_meaning n name.0 source.0, constant_declares n name source) ∷ []) refl)
+  layer_declares n (kind.TsEnumDecl false is_const) (name ∷ members ∷ []) h =
+      let d = role_declares n (kind.TsEnumDecl false is_const) (name ∷ members ∷ []) h in
+      record { names = d.names; default_names = d.default_names; lexicals = d.lexicals; vars = d.vars; locals = d.locals; imported = d.imported; exports = d.exports }
+  layer_declares n kind.TsEnumMember (name ∷ init ∷ []) h =
+      let d = role_declares n kind.TsEnumMember (name ∷ init ∷ []) h in
+      record { names = d.names; default_names = d.default_names; lexicals = d.lexicals; vars = d.vars; locals = d.locals; imported = d.imported; exports = d.exports }
   layer_declares n k ps h = either_declares (has_no_effect k (parts ps)) (no_effect n) (role_by n k (parts ps)) (role_declares n (kind.TsTypeAliasDecl false) [] refl) (role_declares n k ps h)
 
   -- a tree whose identifiers pass

@@ -1,5 +1,5 @@
 -- Statements do alike where their parts do.
-use Rattle.std.proofs.Common.{◌≡◌, ℕ, zero, suc, ◌+◌, ◌⊎◌, inl, inr, sym, ap, subst, suc-add, ◌++◌, ◌∙◌, List, [], ◌∷◌, map, Option, Some, None, true, false, codes}
+use Rattle.std.proofs.Common.{◌≡◌, ℕ, zero, suc, ◌+◌, ◌⊎◌, inl, inr, sym, ap, subst, suc-add, ◌++◌, ◌∙◌, List, [], ◌∷◌, map, Option, Some, None, true, false, codes, Bool}
 use Rattle.ecma_kind.specs.declared.kind.Kind.{Kind}
 use Rattle.ecma_kind.specs.declared.kind.Kind.TheVariants as kind
 use Rattle.ecma_kind.specs.declared.operators.VarDeclKind.TheVariants.{Var, Let, Const}
@@ -12,7 +12,7 @@ use Rattle.ecma_runs.proofs.Exports.{default_ids}
 use Rattle.ecma_runs.specs.Run.{◌>>=◌, give, when, loop, TurnsSpent, Run}
 use Rattle.ecma_runs.specs.Operators.{strictly_equal}
 use Rattle.ecma_runs.specs.Environment.{ToFree, ToMember, copy_environment, empty, initialize}
-use Rattle.ecma_runs.specs.Statements.{rounds, while, do_while, for_rounds, for_loop, block, all_completions, completion_of, effect_of, all_varied, varied_of, all_hoisted, hoisted_of, all_last, last_of, caught_of, all_switched, switched_of, is_case_of, selected_of}
+use Rattle.ecma_runs.specs.Statements.{rounds, while, do_while, for_rounds, for_loop, block, all_completions, completion_of, effect_of, all_varied, varied_of, all_hoisted, hoisted_of, all_last, last_of, caught_of, all_switched, switched_of, is_case_of, selected_of, all_members, member_of}
 use Rattle.ecma_runs.specs.State.{Id}
 use Rattle.ecma_runs.specs.Environment.{ids_of}
 use Rattle.ecma_runs.specs.Sought.{meanings, all_sought, sought_of}
@@ -22,7 +22,7 @@ use Rattle.ecma_runs.proofs.Alike.{Change, Standing, Alike, excused_alike, bind_
 use Rattle.ecma_runs.proofs.Environments.{beside, Knows, enter_alike, copy_alike, initialize_alike}
 use Rattle.ecma_runs.proofs.Meanings.{at, World, first, second, inward, later, newest, within, Both, seekers, firsts, seconds, empties}
 use Rattle.ecma_runs.proofs.Premises.{renamed_kind, KeptLayer, Placed, PlacedNode}
-use Rattle.ecma_runs.proofs.Lists.{all_stay, all_completions_alike, all_varied_alike, all_hoisted_alike, all_last_alike, all_switched_alike}
+use Rattle.ecma_runs.proofs.Lists.{all_stay, all_completions_alike, all_varied_alike, all_hoisted_alike, all_last_alike, all_switched_alike, all_members_alike}
 use Rattle.ecma_runs.proofs.Functions.{read_object_alike, write_alike}
 use Rattle.ecma_runs.proofs.Expressions.{value_alike}
 
@@ -149,6 +149,13 @@ module _ (c : Change) {a : List Entered} (w : World (at c a)) where
   completion_alike kind.TsExportAssignment ps kept h = give_alike d tt
   completion_alike (kind.TsTypeAliasDecl declare) ps kept h = give_alike d tt
   completion_alike _ ps kept h = outside_alike d
+
+  pub member_of_alike : c.enums.has ≡ true → (k : Kind) (ps : List (Both c)) → Standing c w.scope (sought_of k (seekers c ps)) → (leaves_out : Bool) (ids : List Id)
+      → Alike d (member_of k (firsts c ps) leaves_out ids (first d w)) (member_of (renamed_kind c k) (seconds c ps) leaves_out ids (second d w))
+  member_of_alike has kind.List ps s leaves_out ids =
+      all_stay c (λ ls ms'. Standing c w.scope (all_sought ls) → Alike d (all_members leaves_out ids (meanings ls) (first d w)) (all_members leaves_out ids ms' (second d w))) (λ items z. all_members_alike c w has items z leaves_out ids) ps s
+  member_of_alike has (kind.TsTypeAliasDecl declare) ps s leaves_out ids = give_alike d tt
+  member_of_alike has _ ps s leaves_out ids = outside_alike d
 
   pub varied_alike : (k : Kind) (ps : List (Both c)) → Standing c w.scope (sought_of k (seekers c ps)) → Alike d (varied_of k (firsts c ps) (first d w)) (varied_of (renamed_kind c k) (seconds c ps) (second d w))
   varied_alike kind.List ps s = all_stay c (λ ls ms'. Standing c w.scope (all_sought ls) → Alike d (all_varied (meanings ls) (first d w)) (all_varied ms' (second d w))) (all_varied_alike c w) ps s

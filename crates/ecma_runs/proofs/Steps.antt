@@ -1,31 +1,39 @@
 -- A node means alike where its children do, and a list does as it does without items that do nothing.
-use Rattle.std.proofs.Common.{◌≡◌, ◌++◌, ℕ, refl, ap, ◌∙◌, subst, List, [], ◌∷◌, Option, Some, Bool, true, false, cond, codes, append-nil}
+use Rattle.std.proofs.Common.{◌≡◌, ◌++◌, ℕ, refl, sym, ap, ◌∙◌, ◌&&◌, subst, subst₂, List, [], ◌∷◌, map, Option, Some, None, is_some, Bool, true, false, cond, codes, append-nil}
 use Rattle.ecma_kind.specs.declared.kind.Kind.{Kind}
 use Rattle.ecma_kind.specs.declared.kind.Kind.TheVariants as kind
 use Rattle.ecma_kind.specs.declared.operators.AssignOp.TheVariants.{Assign}
+use Rattle.ecma_kind.specs.declared.operators.BinaryOp.TheVariants.{LogicalOr}
 use Rattle.ecma_kind.specs.declared.operators.VarDeclKind.TheVariants.{Const}
 use Rattle.ecma_tree.specs.declared.node.Node.{Node}
-use Rattle.ecma_runs.specs.Values.{Value}
-use Rattle.ecma_runs.specs.Run.{◌>>=◌, give, outside}
-use Rattle.ecma_runs.specs.Environment.{Reference, ToFree, ToValue}
-use Rattle.ecma_runs.specs.Meaning.{Evaluation, Meaning}
+use Rattle.ecma_enums.specs.Values.{is_text}
+use Rattle.ecma_enums.specs.declared.value.TsEnumRecordValue.{TsEnumRecordValue}
+use Rattle.ecma_runs.specs.Values.{Value, Undefined}
+use Rattle.ecma_runs.specs.Run.{Run, ◌>>=◌, give, outside, spend}
+use Rattle.ecma_runs.specs.Environment.{Reference, ToFree, ToValue, empty, fill}
+use Rattle.ecma_runs.specs.Enums.{as_value}
+use Rattle.ecma_runs.specs.Functions.{pass_function, read, write}
+use Rattle.ecma_runs.specs.Statements.{member_of}
+use Rattle.ecma_runs.specs.Meaning.{inside, Evaluation, Meaning}
 use Rattle.ecma_runs.specs.Declarations.{has_no_effect}
 use Rattle.ecma_runs.specs.Sought.{Sought, nothing_sought, role_sought, sought_by}
-use Rattle.ecma_runs.specs.Evaluation.{role_by, ending_chain, no_effect, free_meaning, text_key, constant_meaning, set_export, meaning_by}
+use Rattle.ecma_runs.specs.Evaluation.{role_by, ending_chain, no_effect, free_meaning, text_key, constant_meaning, set_export, in_record, as_it_is, called_with, variable_reference, variable_meaning, value_meaning, set_by, known_member, set_member_by, member_by, member_meaning, leaves_out, is_left_out, members_meaning, called_function, enum_part_by, enum_part, enum_meaning, meaning_by}
 use Rattle.ecma_runs.specs.State.{Id, Entered}
-use Rattle.ecma_runs.proofs.Names.{Unless, unless_is, unless_both, unless_plain}
-use Rattle.ecma_runs.proofs.Alike.{Change, Standing, bind_by, bind_alike, give_by, give_alike, given_alike, return_alike, outside_alike}
-use Rattle.ecma_runs.proofs.Environments.{KeepTexts, AlikeReference}
-use Rattle.ecma_runs.proofs.Functions.{read_alike}
-use Rattle.ecma_runs.proofs.Meanings.{at, World, first, second, AlikeChain, EvaluatesAlike, SameSeeking, Same, any_seeking, Both, pair, seekers, firsts, seconds}
+use Rattle.ecma_runs.proofs.Names.{Unless, unless_is, unless_both, unless_plain, changed_scope}
+use Rattle.ecma_runs.proofs.Scopes.{always_stands}
+use Rattle.ecma_runs.proofs.EnumReads.{exact_texts, exact_ids, resolved_exact}
+use Rattle.ecma_runs.proofs.Alike.{Change, IsExact, Standing, Alike, bind_by, bind_alike, give_by, give_alike, given_alike, return_alike, outside_alike, when_alike, spend_alike}
+use Rattle.ecma_runs.proofs.Environments.{KeepTexts, AlikeReference, enter_alike, fill_alike}
+use Rattle.ecma_runs.proofs.Functions.{read_alike, write_alike}
+use Rattle.ecma_runs.proofs.Meanings.{at, World, first, second, later, within, empties, AlikeChain, EvaluatesAlike, SameSeeking, Same, any_seeking, Both, pair, seekers, firsts, seconds}
 use Rattle.ecma_runs.proofs.Premises.{renamed_kind, KeptLayer, OpensLayer, Outlined}
-use Rattle.ecma_runs.proofs.Lists.{Item, seekers_before, before, behind, all_arguments_alike, all_elements_alike, all_texts_alike, all_completions_alike, all_varied_alike, all_hoisted_alike, all_last_alike, all_switched_alike, all_matched_alike, all_targets_alike, all_parameters_alike, all_fields_alike, all_statics_alike, all_defined_alike, all_code_alike, all_names_same, all_declared_same, all_last_declared_same, all_parameter_names_same, all_lexicals_same, all_vars_same, all_imported_same, all_exports_same, all_cooked_same, all_plain_same, all_types_same, any_constructor_same}
-use Rattle.ecma_runs.proofs.Expressions.{link_alike, value_alike, reference_alike, chain_alike, test_alike, initial_alike, arguments_alike, elements_alike, texts_alike, key_alike}
+use Rattle.ecma_runs.proofs.Lists.{Item, seekers_before, before, behind, all_arguments_alike, all_elements_alike, all_texts_alike, all_completions_alike, all_varied_alike, all_hoisted_alike, all_last_alike, all_switched_alike, all_matched_alike, all_targets_alike, all_parameters_alike, all_fields_alike, all_statics_alike, all_defined_alike, all_code_alike, all_names_same, all_declared_same, all_last_declared_same, all_parameter_names_same, all_lexicals_same, all_vars_same, all_imported_same, all_exports_same, all_cooked_same, all_plain_same, all_types_same, any_constructor_same, all_members_alike, all_member_texts_same}
+use Rattle.ecma_runs.proofs.Expressions.{link_alike, value_alike, reference_alike, chain_alike, test_alike, initial_alike, arguments_alike, elements_alike, texts_alike, key_alike, written_alike}
 use Rattle.ecma_runs.proofs.Patterns.{assigned_alike, targets_alike, matched_alike, bound_alike, parameters_alike}
 use Rattle.ecma_runs.proofs.Classes.{made_alike, default_made_alike, body_alike, code_alike, class_made_alike, defined_alike, fields_alike, statics_alike}
-use Rattle.ecma_runs.proofs.Blocks.{completed_alike}
-use Rattle.ecma_runs.proofs.Statements.{varied_alike, hoisted_alike, last_alike, caught_alike, switched_alike, selected_alike, effect_alike}
-use Rattle.ecma_runs.proofs.Declarations.{names_same, default_names_same, imported_same, text_same, lexicals_same, vars_same, locals_same, parameter_names_same, declared_same, last_declared_same, cooked_same, is_plain_same, is_computed_same, is_super_same, is_absent_same, is_required_same, is_this_same, is_type_same, has_body_same, is_constructor_same, has_no_effect_same, exports_same}
+use Rattle.ecma_runs.proofs.Blocks.{completed_alike, in_record_alike, pass_function_alike}
+use Rattle.ecma_runs.proofs.Statements.{varied_alike, hoisted_alike, last_alike, caught_alike, switched_alike, selected_alike, effect_alike, member_of_alike}
+use Rattle.ecma_runs.proofs.Declarations.{names_same, default_names_same, imported_same, text_same, lexicals_same, vars_same, locals_same, parameter_names_same, declared_same, last_declared_same, cooked_same, is_plain_same, is_computed_same, is_super_same, is_absent_same, is_required_same, is_this_same, is_type_same, has_body_same, is_constructor_same, has_no_effect_same, exports_same, member_texts_same}
 
 module _ (c : Change) where
   role_same : (n : Node) → c.fine n → (k : Kind) (ps : List (Both c)) → KeptLayer c k (firsts c ps) → Unless c.names.plain (OpensLayer c k (seekers c ps)) → Unless c.names.plain (Outlined c n k (seekers c ps))
@@ -33,6 +41,7 @@ module _ (c : Change) where
   role_same n fine k ps kept o l = record {
     value = λ w s. value_alike c w n fine k ps kept ((s, o), l);
     reference = λ w s. reference_alike c w n fine k ps kept ((s, o), l);
+    written = λ w s. written_alike c w n fine k ps kept ((s, o), l);
     assigned = λ get get' h w s. assigned_alike c w n fine k ps kept ((s, o), l) get get' h;
     initial = λ w s. initial_alike c w n fine k ps kept ((s, o), l);
     arguments = λ w s. arguments_alike c w n fine k ps kept ((s, o), l);
@@ -46,6 +55,7 @@ module _ (c : Change) where
     targets = λ v w s. targets_alike c w k ps kept s v;
     parameters = λ arguments w s. parameters_alike c w k ps s arguments;
     completion = λ w s. completed_alike c w n fine k ps kept (s, o);
+    member = λ has leaves_out ids w s. member_of_alike c w has k ps s leaves_out ids;
     varied = λ w s. varied_alike c w k ps s;
     hoisted = λ w s. hoisted_alike c w k ps s;
     last = λ w s. last_alike c w k ps kept s;
@@ -72,6 +82,7 @@ module _ (c : Change) where
     last_declared = last_declared_same c k ps;
     imported = imported_same c k ps kept;
     text = text_same c k ps;
+    member_texts = λ has. member_texts_same c (exact_texts c (c.enums.exact has)) has k ps;
     exports = exports_same c k ps kept;
     cooked = cooked_same c k ps;
     is_plain = is_plain_same c k ps;
@@ -86,14 +97,18 @@ module _ (c : Change) where
   }
 
   -- with others in the place of some roles
-  with_roles : {m m' : Meaning} {s : Sought} (v v' : Evaluation Value) (r r' : Evaluation Reference) (k k' : Evaluation (List ℕ)) (h h' : Evaluation (Option Reference)) → SameSeeking c m s m'
+  with_roles : {m m' : Meaning} {s : Sought} (v v' : Evaluation Value) (r r' : Evaluation Reference) (k k' : Evaluation (List ℕ)) (h h' : Evaluation (Option Reference))
+      (g g' : Run Value → Evaluation Value) (e e' : Evaluation (Unit {0})) (p p' : Bool → List Id → Evaluation (Unit {0})) → SameSeeking c m s m'
       → ((a : List Entered) → EvaluatesAlike c a s.sought v v') → ((a : List Entered) (w : World (at c a)) → Standing c w.scope s.sought → AlikeReference (at c a) (r (first (at c a) w)) (r' (second (at c a) w)))
       → ((a : List Entered) → EvaluatesAlike c a s.sought k k') → ((a : List Entered) (w : World (at c a)) → Standing c w.scope s.sought → AlikeChain (at c a) (h (first (at c a) w)) (h' (second (at c a) w)))
-      → SameSeeking c (record m { value = v; reference = r; key = k; chain = h }) s (record m' { value = v'; reference = r'; key = k'; chain = h' })
-  with_roles v v' r r' k k' h h' same values references keys chains = record {
+      → ((a : List Entered) (get get' : Run Value) → Alike (at c a) get get' → EvaluatesAlike c a s.sought (g get) (g' get')) → ((a : List Entered) → EvaluatesAlike c a s.sought e e')
+      → ((a : List Entered) → c.enums.has ≡ true → (leaves_out : Bool) (ids : List Id) → EvaluatesAlike c a s.sought (p leaves_out ids) (p' leaves_out ids))
+      → SameSeeking c (record m { value = v; reference = r; key = k; chain = h; assigned = g; completion = e; member = p }) s (record m' { value = v'; reference = r'; key = k'; chain = h'; assigned = g'; completion = e'; member = p' })
+  with_roles v v' r r' k k' h h' g g' e e' p p' same values references keys chains assigns completions members = record {
     value = λ w s. values _ w s;
     reference = λ w s. references _ w s;
-    assigned = same.assigned;
+    written = same.written;
+    assigned = λ get get' alike w s. assigns _ get get' alike w s;
     initial = same.initial;
     arguments = same.arguments;
     elements = same.elements;
@@ -104,7 +119,8 @@ module _ (c : Change) where
     matched = same.matched;
     targets = same.targets;
     parameters = same.parameters;
-    completion = same.completion;
+    completion = λ w s. completions _ w s;
+    member = λ has leaves_out ids w s. members _ has leaves_out ids w s;
     varied = same.varied;
     hoisted = same.hoisted;
     last = same.last;
@@ -131,6 +147,7 @@ module _ (c : Change) where
     last_declared = same.last_declared;
     imported = same.imported;
     text = same.text;
+    member_texts = same.member_texts;
     exports = same.exports;
     cooked = same.cooked;
     is_plain = same.is_plain;
@@ -145,9 +162,26 @@ module _ (c : Change) where
     chain = λ w s. chains _ w s;
   }
 
+  -- in the place of those of an expression
+  with_value : {m m' : Meaning} {s : Sought} (v v' : Evaluation Value) (r r' : Evaluation Reference) (k k' : Evaluation (List ℕ)) (h h' : Evaluation (Option Reference)) → SameSeeking c m s m'
+      → ((a : List Entered) → EvaluatesAlike c a s.sought v v') → ((a : List Entered) (w : World (at c a)) → Standing c w.scope s.sought → AlikeReference (at c a) (r (first (at c a) w)) (r' (second (at c a) w)))
+      → ((a : List Entered) → EvaluatesAlike c a s.sought k k') → ((a : List Entered) (w : World (at c a)) → Standing c w.scope s.sought → AlikeChain (at c a) (h (first (at c a) w)) (h' (second (at c a) w)))
+      → SameSeeking c (record m { value = v; reference = r; key = k; chain = h }) s (record m' { value = v'; reference = r'; key = k'; chain = h' })
+  with_value {m} {m'} v v' r r' k k' h h' same values references keys chains =
+      with_roles v v' r r' k k' h h' m.assigned m'.assigned m.completion m'.completion m.member m'.member same values references keys chains
+      (λ a get get' alike w s. same.assigned get get' alike w s) (λ a w s. same.completion w s) (λ a has leaves_out ids w s. same.member has leaves_out ids w s)
+
+  -- in the place of that of a statement, and of a member
+  with_completion : {m m' : Meaning} {s : Sought} (e e' : Evaluation (Unit {0})) (p p' : Bool → List Id → Evaluation (Unit {0})) → SameSeeking c m s m'
+      → ((a : List Entered) → EvaluatesAlike c a s.sought e e') → ((a : List Entered) → c.enums.has ≡ true → (leaves_out : Bool) (ids : List Id) → EvaluatesAlike c a s.sought (p leaves_out ids) (p' leaves_out ids))
+      → SameSeeking c (record m { completion = e; member = p }) s (record m' { completion = e'; member = p' })
+  with_completion {m} {m'} e e' p p' same completions members =
+      with_roles m.value m'.value m.reference m'.reference m.key m'.key m.chain m'.chain m.assigned m'.assigned e e' p p' same (λ a w s. same.value w s) (λ a w s. same.reference w s)
+      (λ a w s. same.key w s) (λ a w s. same.chain w s) (λ a get get' alike w s. same.assigned get get' alike w s) completions members
+
   ending_same : (m : Meaning) (s : Sought) (m' : Meaning) → SameSeeking c m s m' → SameSeeking c (ending_chain m) s (ending_chain m')
   ending_same m s m' same =
-      with_roles m.value m'.value m.reference m'.reference m.key m'.key (ending_chain m).chain (ending_chain m').chain same (λ a w s. same.value w s) (λ a w s. same.reference w s) (λ a w s. same.key w s)
+      with_value m.value m'.value m.reference m'.reference m.key m'.key (ending_chain m).chain (ending_chain m').chain same (λ a w s. same.value w s) (λ a w s. same.reference w s) (λ a w s. same.key w s)
       (λ a w s. bind_by (at c a) (λ r. give (Some r)) (same.reference w s) (λ r p. give_by (at c a) (Some r) p))
 
   no_effect_same : (n : Node) → c.fine n → Same c (no_effect n) (no_effect (c.node n))
@@ -189,7 +223,7 @@ module _ (c : Change) where
       let m : Meaning = free_meaning n name in
       let m' : Meaning = free_meaning (c.node n) name in
       let same : Same c (role_by n kind.Absent []) (role_by (c.node n) kind.Absent []) = absent_same n fine in
-      with_roles m.value m'.value m.reference m'.reference m.key m'.key m.chain m'.chain same
+      with_value m.value m'.value m.reference m'.reference m.key m'.key m.chain m'.chain same
       (λ a w s. read_alike (at c a) w (ToFree name) tt) (λ a w s. give_by (at c a) (ToFree name) tt) (λ a w s. same.key w s) (λ a w s. same.chain w s)
 
   key_same : (n : Node) → c.fine n → (name : Both c) → KeepTexts c name.0.meaning.shorthands → Same c (text_key n name.0.meaning) (text_key (c.node n) name.1)
@@ -197,7 +231,7 @@ module _ (c : Change) where
       let m : Meaning = text_key n name.0.meaning in
       let m' : Meaning = text_key (c.node n) name.1 in
       let same : Same c (role_by n kind.Absent []) (role_by (c.node n) kind.Absent []) = absent_same n fine in
-      with_roles m.value m'.value m.reference m'.reference m.key m'.key m.chain m'.chain same
+      with_value m.value m'.value m.reference m'.reference m.key m'.key m.chain m'.chain same
       (λ a w s. same.value w s) (λ a w s. same.reference w s) (λ a w s. rw (name.2.text texts) (given_alike (at c a) name.0.meaning.text)) (λ a w s. same.chain w s)
 
   -- a required module is set as an export, and is the value of a constant
@@ -226,6 +260,140 @@ module _ (c : Change) where
       (role_by (c.node n) kind.ExportDecl (constant_meaning (c.node n) name.1 source.1 ∷ [])))
       (append-nil s.sought) (role_same n fine kind.ExportDecl (constant ∷ []) tt u u)
 
+  -- enums, where they may stand
+
+  module _ (has : c.enums.has ≡ true) (n : Node) (fine : c.fine n) where
+    abbrev exact : IsExact c.names c.uses c.passed
+    exact = c.enums.exact has
+
+    stand : {scope : List Entered} {ids : List Id} → Standing c scope ids
+    stand = always_stands c.names exact.plain
+
+    abbrev piece : (k : Kind) (ps : List (Both c)) → KeptLayer c k (firsts c ps) → Both c
+    piece k ps kept = role_both n fine k ps kept (unless_plain c.names.plain exact.plain (OpensLayer c k (seekers c ps))) (unless_plain c.names.plain exact.plain (Outlined c n k (seekers c ps)))
+
+    abbrev no_child : Both c
+    no_child = pair c (role_by n kind.Absent []) (role_by (c.node n) kind.Absent []) (absent_same n fine)
+
+    -- a variable of an enum
+    variable_alike : {a : List Entered} (w : World (at c a)) (ids : List Id) → AlikeReference (at c a) (variable_reference ids (first (at c a) w)) (variable_reference ids (second (at c a) w))
+    variable_alike {a} w [] = outside_alike (at c a)
+    variable_alike w (id ∷ ids) = resolved_exact c w exact id
+
+    variable_same : (ids : List Id) → Same c (variable_meaning n ids) (variable_meaning (c.node n) ids)
+    variable_same ids =
+        let m : Meaning = variable_meaning n ids in
+        let m' : Meaning = variable_meaning (c.node n) ids in
+        let same : Same c (role_by n kind.Absent []) (role_by (c.node n) kind.Absent []) = absent_same n fine in
+        with_roles m.value m'.value m.reference m'.reference m.key m'.key m.chain m'.chain m.assigned m'.assigned m.completion m'.completion m.member m'.member same
+        (λ a w s. bind_by (at c a) (λ r. read (second (at c a) w) r) (variable_alike w ids) (λ r p. read_alike (at c a) w r p)) (λ a w s. variable_alike w ids) (λ a w s. same.key w s) (λ a w s. same.chain w s)
+        (λ a get get' alike w s. bind_by (at c a) (λ r. get' >>= λ v. write (second (at c a) w) r v >>= λ _. give v) (variable_alike w ids)
+        (λ r p. bind_alike (at c a) alike (λ v. bind_alike (at c a) (write_alike (at c a) w r p v) (λ _. give_alike (at c a) v))))
+        (λ a w s. same.completion w s) (λ a has leaves_out ids w s. same.member has leaves_out ids w s)
+
+    abbrev variable : List Id → Both c
+    variable ids = pair c (variable_meaning n ids) (variable_meaning (c.node n) ids) (variable_same ids)
+
+    -- an expression of a value
+    value_same : (v v' : Evaluation Value) → ((a : List Entered) (w : World (at c a)) → Alike (at c a) (v (first (at c a) w)) (v' (second (at c a) w))) → Same c (value_meaning n v) (value_meaning (c.node n) v')
+    value_same v v' h =
+        let m : Meaning = value_meaning n v in
+        let m' : Meaning = value_meaning (c.node n) v' in
+        let same : Same c (role_by n kind.Absent []) (role_by (c.node n) kind.Absent []) = absent_same n fine in
+        with_value v v' m.reference m'.reference m.key m'.key m.chain m'.chain same (λ a w s. h a w) (λ a w s. same.reference w s) (λ a w s. same.key w s) (λ a w s. same.chain w s)
+
+    abbrev text : List ℕ → Both c
+    text t = piece (kind.Str t None) [] tt
+
+    abbrev computed : Both c → Both c → Both c
+    computed object e = piece kind.MemberExpr (object ∷ piece kind.ComputedPropName (e ∷ []) tt ∷ []) exact.used
+
+    abbrev set_text_both : Both c → List ℕ → Both c → Both c
+    set_text_both enum t v = piece (kind.AssignExpr Assign) (computed enum (text t) ∷ v ∷ []) tt
+
+    set_alike : (b : Bool) (ids : List Id) (t : List ℕ) (v : Both c) {a : List Entered} (w : World (at c a))
+        → Alike (at c a) ((role_by n kind.ExprStmt (set_by b n (variable_meaning n ids) t v.0.meaning ∷ [])).completion (first (at c a) w))
+        ((role_by (c.node n) kind.ExprStmt (set_by b (c.node n) (variable_meaning (c.node n) ids) t v.1 ∷ [])).completion (second (at c a) w))
+    set_alike true ids t v w = (piece kind.ExprStmt (set_text_both (variable ids) t v ∷ []) tt).2.completion w stand
+    set_alike false ids t v w = (piece kind.ExprStmt (piece (kind.AssignExpr Assign) (computed (variable ids) (set_text_both (variable ids) t v) ∷ text t ∷ []) tt ∷ []) tt).2.completion w stand
+
+    set_member_alike : (ids : List Id) (t : List ℕ) (o : Option TsEnumRecordValue) (init : Both c) {a : List Entered} (w : World (at c a))
+        → Alike (at c a) (set_member_by n ids t o init.0.meaning (first (at c a) w)) (set_member_by (c.node n) ids t o init.1 (second (at c a) w))
+    set_member_alike ids t None init w =
+        set_alike false ids t (pair c (value_meaning n init.0.meaning.initial) (value_meaning (c.node n) init.1.initial) (value_same init.0.meaning.initial init.1.initial (λ a w. init.2.initial w stand))) w
+    set_member_alike ids t (Some v) init w =
+        set_alike (is_text v) ids t (pair c (value_meaning n (λ x. give (as_value v))) (value_meaning (c.node n) (λ x. give (as_value v))) (value_same (λ x. give (as_value v)) (λ x. give (as_value v)) (λ a w. give_alike (at c a) (as_value v)))) w
+
+    member_by_alike : (leaves_out : Bool) (ids : List Id) (init : Both c) (o : Option (List ℕ)) {a : List Entered} (w : World (at c a))
+        → Alike (at c a) (member_by n leaves_out ids init.0.meaning o (first (at c a) w)) (member_by (c.node n) leaves_out ids init.1 o (second (at c a) w))
+    member_by_alike leaves_out ids init None {a} w = outside_alike (at c a)
+    member_by_alike leaves_out ids init (Some t) {a} w =
+        when_alike (at c a) (leaves_out && is_some (known_member c.known.enums ids t)) (give_alike (at c a) tt) (set_member_alike ids t (known_member c.known.enums ids t) init w)
+
+    -- a part
+
+    names_stay : (name : Both c) → name.1.names ≡ name.0.meaning.names
+    names_stay name = name.2.names ∙ exact_ids c exact name.0.meaning.names
+
+    members_same : (is_const : Bool) (ids : List Id) (members : Both c) → Same c (members_meaning n is_const ids members.0.meaning) (members_meaning (c.node n) is_const ids members.1)
+    members_same is_const ids members =
+        let same : Same c (role_by n kind.List []) (role_by (c.node n) kind.List []) = (piece kind.List [] tt).2 in
+        with_completion (members_meaning n is_const ids members.0.meaning).completion (members_meaning (c.node n) is_const ids members.1).completion
+        (role_by n kind.List []).member (role_by (c.node n) kind.List []).member same
+        (λ a w s. members.2.member has (leaves_out is_const c.known.enums ids) ids w stand) (λ a has leaves_out ids w s. same.member has leaves_out ids w s)
+
+    abbrev members_both : Bool → List Id → Both c → Both c
+    members_both is_const ids members = pair c (members_meaning n is_const ids members.0.meaning) (members_meaning (c.node n) is_const ids members.1) (members_same is_const ids members)
+
+    abbrev function : Bool → Both c → Both c → Both c
+    function is_const name members =
+        piece (kind.Function false false)
+        (piece kind.List (piece kind.Param (piece kind.BindingIdent (name ∷ no_child ∷ []) tt ∷ []) tt ∷ []) tt
+        ∷ piece kind.BlockStmt (members_both is_const name.0.meaning.names members ∷ []) tt ∷ no_child ∷ no_child ∷ []) refl
+
+    abbrev object : List Id → Both c
+    object ids = piece (kind.BinExpr LogicalOr) (variable ids ∷ piece (kind.AssignExpr Assign) (variable ids ∷ piece kind.ObjectLit (piece kind.List [] tt ∷ []) tt ∷ []) tt ∷ []) tt
+
+    called_alike : (f arguments : Both c) {a : List Entered} (w : World (at c a))
+        → Alike (at c a) (called_function n f.0.meaning arguments.0.meaning (first (at c a) w)) (called_function (c.node n) f.1 arguments.1 (second (at c a) w))
+    called_alike f arguments {a} w =
+        enter_alike (at c a) (λ e. pass_function (c.node n) (inside (second (at c a) w) e) >>= λ place. arguments.1.arguments (second (at c a) w) >>= λ vs. spend >>= λ _.
+        in_record (map (empty false) f.1.parameter_names) (Some (called_with Undefined place None vs)) (f.1.code vs) as_it_is (inside (second (at c a) w) e) >>= λ _. give tt) [] None (λ e is.
+        bind_alike (at c (e ∷ a)) (pass_function_alike c (within (at c a) w e) n exact.nothing_passed) (λ place. bind_alike (at c (e ∷ a)) (arguments.2.arguments (later (at c a) w e) stand) (λ vs.
+        bind_alike (at c (e ∷ a)) (spend_alike (at c (e ∷ a))) (λ _.
+        bind_alike (at c (e ∷ a)) (in_record_alike c (within (at c a) w e) (map (empty false) f.0.meaning.parameter_names) (map (empty false) f.1.parameter_names)
+        (ap (map (empty false)) f.2.parameter_names ∙ empties c false f.0.meaning.parameter_names) (Some (called_with Undefined place None vs)) (f.0.meaning.code vs) (f.1.code vs)
+        (λ e' ids. f.2.code exact.used vs (within (at c (e ∷ a)) (within (at c a) w e) e') stand) as_it_is (λ b place v. give_alike (at c b) v)) (λ _. give_alike (at c (e ∷ a)) tt)))))
+
+    part_alike : (is_const : Bool) (name members : Both c) {a : List Entered} (w : World (at c a))
+        → Alike (at c a) (enum_part n is_const name.0.meaning members.0.meaning (first (at c a) w)) (enum_part (c.node n) is_const name.1 members.1 (second (at c a) w))
+    part_alike is_const name members {a} w =
+        subst₂ (λ ids texts. Alike (at c a) (enum_part n is_const name.0.meaning members.0.meaning (first (at c a) w)) (enum_part_by (c.node n) is_const name.1 ids texts members.1 (second (at c a) w)))
+        (sym (names_stay name)) (sym (members.2.member_texts has))
+        (bind_alike (at c a) (subst (λ ids. Alike (at c a) (fill w.scope name.0.meaning.names) (fill (changed_scope c.names w.scope) ids)) (exact_ids c exact name.0.meaning.names)
+        (fill_alike (at c a) w.scope w.there exact.all name.0.meaning.names stand)) (λ _.
+        when_alike (at c a) (is_left_out is_const c.known.enums name.0.meaning.names members.0.meaning.member_texts) (give_alike (at c a) tt)
+        (called_alike (function is_const name members) (piece kind.List (object name.0.meaning.names ∷ []) tt) w)))
+
+  enum_same : c.enums.has ≡ true → (n : Node) → c.fine n → (is_const : Bool) (name members : Both c) (o : Unless c.names.plain (OpensLayer c (kind.TsEnumDecl false is_const) (name.0 ∷ members.0 ∷ [])))
+      (l : Unless c.names.plain (Outlined c n (kind.TsEnumDecl false is_const) (name.0 ∷ members.0 ∷ [])))
+      → SameSeeking c (enum_meaning n is_const name.0.meaning members.0.meaning) (role_sought (kind.TsEnumDecl false is_const) (name.0 ∷ members.0 ∷ [])) (enum_meaning (c.node n) is_const name.1 members.1)
+  enum_same has n fine is_const name members o l =
+      let same = role_same n fine (kind.TsEnumDecl false is_const) (name ∷ members ∷ []) has o l in
+      with_completion (enum_part n is_const name.0.meaning members.0.meaning) (enum_part (c.node n) is_const name.1 members.1)
+      (member_of (kind.TsEnumDecl false is_const) (name.0.meaning ∷ members.0.meaning ∷ [])) (member_of (kind.TsEnumDecl false is_const) (name.1 ∷ members.1 ∷ [])) same
+      (λ a w s. part_alike has n fine is_const name members w) (λ a has leaves_out ids w s. same.member has leaves_out ids w s)
+
+  member_same : (n : Node) → c.fine n → (name init : Both c) (o : Unless c.names.plain (OpensLayer c kind.TsEnumMember (name.0 ∷ init.0 ∷ []))) (l : Unless c.names.plain (Outlined c n kind.TsEnumMember (name.0 ∷ init.0 ∷ [])))
+      → SameSeeking c (member_meaning n name.0.meaning init.0.meaning) (role_sought kind.TsEnumMember (name.0 ∷ init.0 ∷ [])) (member_meaning (c.node n) name.1 init.1)
+  member_same n fine name init o l =
+      let same = role_same n fine kind.TsEnumMember (name ∷ init ∷ []) tt o l in
+      with_completion (role_by n kind.TsEnumMember (name.0.meaning ∷ init.0.meaning ∷ [])).completion (role_by (c.node n) kind.TsEnumMember (name.1 ∷ init.1 ∷ [])).completion
+      (λ leaves_out ids. member_by n leaves_out ids init.0.meaning name.0.meaning.text) (λ leaves_out ids. member_by (c.node n) leaves_out ids init.1 name.1.text) same
+      (λ a w s. same.completion w s)
+      (λ a has leaves_out ids w s. subst (λ o. Alike (at c a) (member_by n leaves_out ids init.0.meaning name.0.meaning.text (first (at c a) w)) (member_by (c.node n) leaves_out ids init.1 o (second (at c a) w)))
+      (sym (name.2.text (exact_texts c (c.enums.exact has) name.0.meaning.shorthands))) (member_by_alike has n fine leaves_out ids init name.0.meaning.text w))
+
   -- one of two meanings that look up the same
   choose_same : (b b' : Bool) → b' ≡ b → {m m' k k' : Meaning} {s : Sought} → (b ≡ true → SameSeeking c m s m') → SameSeeking c k s k' → SameSeeking c (cond b m k) s (cond b' m' k')
   choose_same true b' e hm hk = rw e (hm refl)
@@ -247,6 +415,8 @@ module _ (c : Change) where
   step_same n fine (kind.TsImportEqualsDecl false false) (name ∷ source ∷ []) kept o l = constant_same n fine name source
   step_same n fine (kind.TsImportEqualsDecl true false) (name ∷ source ∷ []) kept o l =
       choose_same source.0.meaning.is_required source.1.is_required source.2.is_required (λ required. required_same n fine name source (kept.0 required) kept.1) (exported_same n fine name source)
+  step_same n fine (kind.TsEnumDecl false is_const) (name ∷ members ∷ []) has o l = enum_same has n fine is_const name members o l
+  step_same n fine kind.TsEnumMember (name ∷ init ∷ []) kept o l = member_same n fine name init o l
   step_same n fine k ps kept o l = kind_same n fine k ps kept o l
 
   -- where names are told apart everywhere
@@ -263,6 +433,7 @@ module _ (c : Change) where
   list_same n n' items = record {
     value = λ w s. outside_alike (at c _);
     reference = λ w s. no_reference w [];
+    written = λ w s. no_reference w [];
     assigned = λ get get' h w s. bind_alike (at c _) {A = Reference} (outside_alike (at c _)) (λ r. outside_alike (at c _));
     initial = λ w s. outside_alike (at c _);
     arguments = λ w s. all_arguments_alike c w items s;
@@ -276,6 +447,7 @@ module _ (c : Change) where
     targets = λ v w s. all_targets_alike c w items s v;
     parameters = λ arguments w s. all_parameters_alike c w items s arguments;
     completion = λ w s. all_completions_alike c w items s;
+    member = λ has leaves_out ids w s. all_members_alike c w has items s leaves_out ids;
     varied = λ w s. all_varied_alike c w items s;
     hoisted = λ w s. all_hoisted_alike c w items s;
     last = λ w s. all_last_alike c w items s;
@@ -302,6 +474,7 @@ module _ (c : Change) where
     last_declared = all_last_declared_same c items;
     imported = all_imported_same c items;
     text = λ texts. refl;
+    member_texts = λ has. all_member_texts_same c has items;
     exports = all_exports_same c items;
     cooked = all_cooked_same c items;
     is_plain = all_plain_same c items;

@@ -1,5 +1,5 @@
 -- Trees that stand in no text, to state facts about runs with; and what they mean, by computing.
-use Rattle.std.proofs.Common.{◌≡◌, refl, ap, ap₂, ◌∙◌, ℕ, pos, Bool, false, List, [], ◌∷◌, map, Some, None, codes}
+use Rattle.std.proofs.Common.{◌≡◌, refl, ap, ap₂, ◌∙◌, ℕ, pos, ◌&&◌, not, Bool, true, false, List, [], ◌∷◌, map, Some, None, codes}
 use Rattle.ecma_number.specs.declared.js_number.JsNumber.TheVariants.{Whole}
 use Rattle.ecma_kind.specs.declared.kind.Kind.{Kind}
 use Rattle.ecma_kind.specs.declared.kind.Kind.TheVariants as kind
@@ -13,7 +13,10 @@ use Rattle.ecma_tree.specs.declared.node.Node.{Node}
 use Rattle.ecma_tree.specs.Nodes.{node_of}
 use Rattle.ecma_runs.specs.Meaning.{Meaning}
 use Rattle.ecma_runs.specs.Evaluation.{meaning_by, meaning}
+use Rattle.ecma_runs.specs.Enums.{is_enum}
 use Rattle.ecma_runs.proofs.Layer.{meaning-roll}
+use Rattle.ecma_runs.proofs.Kept.{AllNodes}
+use Rattle.ecma_runs.proofs.EnumTrees.{Lacks, lacks_layer}
 
 -- trees beside one another, each a kind and what stands below it: these compute, as nodes do not
 pub data Trees : Type 0 where
@@ -169,6 +172,29 @@ node k below = node_of (record { lo = 0; hi = 0 }) k (nodes below)
 
 abbrev pub module' : Trees → Node
 module' body = node (kind.Module None) (list body ▸ End)
+
+-- whether no enum stands in them
+
+abbrev pub all_lack : Trees → Bool
+all_lack End = true
+all_lack (Tree k below beside) = not (is_enum k) && (all_lack below && all_lack beside)
+
+split : (a b : Bool) → a && b ≡ true → (a ≡ true) × (b ≡ true)
+split true b h = (refl, h)
+split false b h = absurd (cc)
+
+nodes_lack : (ts : Trees) → all_lack ts ≡ true → AllNodes Lacks (nodes ts)
+nodes_lack End h = tt
+nodes_lack (Tree k below beside) h =
+    let t = split (not (is_enum k)) (all_lack below && all_lack beside) h in
+    let u = split (all_lack below) (all_lack beside) t.1 in
+    (lacks_layer (record { span = record { lo = 0; hi = 0 }; kind = k; children = nodes below }) t.0 (nodes_lack below u.0), nodes_lack beside u.1)
+
+pub module_lacks : (body : Trees) → all_lack body ≡ true → Lacks (module' body)
+unfolding node
+module_lacks body h =
+    lacks_layer (record { span = record { lo = 0; hi = 0 }; kind = kind.Module None; children = nodes (list body ▸ End) }) refl
+    (lacks_layer (record { span = record { lo = 0; hi = 0 }; kind = kind.List; children = nodes body }) refl (nodes_lack body h), tt)
 
 -- what they mean
 

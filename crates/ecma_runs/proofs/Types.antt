@@ -17,8 +17,10 @@ use Rattle.ecma_runs.proofs.Environments.{KeepTexts}
 use Rattle.ecma_runs.proofs.Meanings.{Same}
 use Rattle.ecma_runs.proofs.Lists.{Silent, Item, Stays, Goes, before, behind}
 use Rattle.ecma_runs.proofs.Steps.{plain_list}
-use Rattle.ecma_runs.proofs.Kept.{AllNodes, Kept, StepsAlike, layer_same, observe_unless}
-use Rattle.ecma_runs.proofs.Layers.{plain_starts, images, texts_stay, the_same, none_excused, all_units, same_kind, kept_layer}
+use Rattle.ecma_runs.proofs.EnumTrees.{types_bare}
+use Rattle.ecma_runs.proofs.Premises.{KeptLayer}
+use Rattle.ecma_runs.proofs.Kept.{AllNodes, Kept, StepsAlike, kept, layer_same, observe_unless}
+use Rattle.ecma_runs.proofs.Layers.{plain_starts, exactly, same_enums, images, texts_stay, the_same, none_excused, all_units, same_kind, kept_layer}
 
 -- of the images of a list's items those stay that `stays` tells; the others do nothing
 module _ (c : Change) (stay : Node → Bool) (silent : (n : Node) → Kept c n → stay (c.node n) ≡ false → Silent c (meaning n)) where
@@ -71,6 +73,7 @@ alias_silent c n' m texts same = record {
   targets = λ v w. same.targets v w (none_stand c.names);
   parameters = λ arguments w. same.parameters arguments w (none_stand c.names);
   completion = λ w. same.completion w (none_stand c.names);
+  member = λ has leaves_out ids w. same.member has leaves_out ids w (none_stand c.names);
   varied = λ w. same.varied w (none_stand c.names);
   hoisted = λ w. same.hoisted w (none_stand c.names);
   last = λ w. same.last w (none_stand c.names);
@@ -85,6 +88,7 @@ alias_silent c n' m texts same = record {
   declared = sym same.declared;
   last_declared = sym same.last_declared;
   imported = λ source. sym (same.imported source);
+  member_texts = λ has. sym (same.member_texts has);
   exports = λ source. sym (same.exports source);
   cooked = sym same.cooked;
   is_plain = sym same.is_plain;
@@ -103,7 +107,10 @@ Layer span k ns = record { span = span; kind = k; children = ns }
 
 module _ (known : Known) where
   abbrev untyped : Change
-  untyped = images without_types known the_same
+  untyped = images without_types known the_same (exactly (λ n. Unit {0}) without_types known types_bare)
+
+  abbrev kept_here : (k : Kind) (ms : List Meaning) → KeptLayer untyped k ms
+  kept_here k ms = kept_layer (λ n. Unit {0}) without_types known the_same (exactly (λ n. Unit {0}) without_types known types_bare) k ms (λ e. refl)
 
   gone_silent : (n : Node) → Kept untyped n → stays (without_types n) ≡ false → Silent untyped (meaning n)
   gone_silent n kept e =
@@ -120,8 +127,8 @@ module _ (known : Known) where
       → meaning (without_types (roll-Node (Layer span k cs))) ≡ meaning_by (without_types (roll-Node (Layer span k cs))) k (map meaning (map without_types cs))
       → Same untyped (meaning (roll-Node (Layer span k cs))) (meaning (without_types (roll-Node (Layer span k cs))))
   other_same span k cs ns is e =
-      layer_same untyped (Layer span k cs) ns is tt (all_units cs) (kept_layer (λ n. Unit {0}) without_types known the_same k (map meaning cs)) tt
-      (e ∙ ap (λ z. meaning_by (without_types (roll-Node (Layer span k cs))) z (map meaning (map without_types cs))) (sym (same_kind (λ n. Unit {0}) without_types known the_same k)))
+      layer_same untyped (Layer span k cs) ns is tt (all_units cs) (kept_here k (map meaning cs)) tt
+      (e ∙ ap (λ z. meaning_by (without_types (roll-Node (Layer span k cs))) z (map meaning (map without_types cs))) (sym (same_kind (λ n. Unit {0}) without_types known the_same (exactly (λ n. Unit {0}) without_types known types_bare) k)))
 
   erased_meaning : (span : Span) (k : Kind) (cs : List Node) → erased_by k (map without_types cs) (Layer span k (map without_types cs)) ≡ roll-Node (Layer span k (map without_types cs))
       → meaning (without_types (roll-Node (Layer span k cs))) ≡ meaning_by (without_types (roll-Node (Layer span k cs))) k (map meaning (map without_types cs))
@@ -169,4 +176,5 @@ module _ (known : Known) where
 pub types_do_not_matter : TypesDoNotMatter
 types_do_not_matter turns options m script =
     ap (λ n. observe n options (without_types m) script) (sym (add-zero turns))
-    ∙ observe_unless (untyped (known_of m)) refl (types_steps (known_of m)) refl refl turns options m script tt refl plain_starts tt tt (none_excused _)
+    ∙ observe_unless (untyped (known_of options m)) refl (types_steps (known_of options m)) refl refl turns options m script tt refl
+    (same_enums without_types options m (types_bare m) (kept (untyped (known_of options m)) (types_steps (known_of options m)) m tt)) plain_starts tt tt (none_excused _)

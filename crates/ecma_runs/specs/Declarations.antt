@@ -5,7 +5,7 @@ use Rattle.ecma_kind.specs.declared.kind.Kind.TheVariants as kind
 use Rattle.ecma_kind.specs.declared.operators.VarDeclKind.TheVariants.{Var, Let, Const}
 use Rattle.ecma_runs.specs.State.{Id, default_name, Binding}
 use Rattle.ecma_runs.specs.Exports.{Exported, Local, Star, local_as, indirect_as}
-use Rattle.ecma_runs.specs.Environment.{ids_of, empty, undefined, import_of}
+use Rattle.ecma_runs.specs.Environment.{ids_of, empty, undefined, unfilled, import_of}
 use Rattle.ecma_runs.specs.Meaning.{Meaning}
 
 -- names
@@ -82,6 +82,8 @@ lexicals_of (kind.ImportDecl false) (specifiers ∷ source ∷ attributes ∷ []
 lexicals_of (kind.FnDecl false) (name ∷ function ∷ []) = map (empty false) name.names
 lexicals_of (kind.ClassDecl false) (name ∷ class ∷ []) = map (empty false) name.names
 lexicals_of kind.SwitchCase (test ∷ statements ∷ []) = statements.lexicals
+-- the variable of an enum stands before its first part, where no declaration before it in the list declares the name: in a record the first of a name counts
+lexicals_of (kind.TsEnumDecl false is_const) (name ∷ members ∷ []) = map unfilled name.names
 lexicals_of kind.ExportDecl (declaration ∷ []) = declaration.lexicals
 lexicals_of kind.ExportDefaultExpr (e ∷ []) = empty false default_name ∷ []
 lexicals_of kind.ExportDefaultDecl (declaration ∷ []) = map (empty false) declaration.default_names
@@ -201,6 +203,22 @@ shorthands_of (kind.Ident sym ctxt optional) [] = record { sym = sym; ctxt = ctx
 shorthands_of kind.BindingIdent (id ∷ annotation ∷ []) = id.shorthands
 shorthands_of kind.List items = all_shorthands items
 shorthands_of _ children = []
+
+-- enums
+
+abbrev pub all_member_texts : List Meaning → List (List ℕ)
+all_member_texts [] = []
+all_member_texts (m ∷ ms) = m.member_texts ++ all_member_texts ms
+
+abbrev pub listed_text : Option (List ℕ) → List (List ℕ)
+listed_text None = []
+listed_text (Some text) = text ∷ []
+
+-- the names of the members of an enum
+abbrev pub member_texts_of : Kind → List Meaning → List (List ℕ)
+member_texts_of kind.List items = all_member_texts items
+member_texts_of kind.TsEnumMember (name ∷ init ∷ []) = listed_text name.text
+member_texts_of _ children = []
 
 -- what else is known
 

@@ -1,24 +1,29 @@
 -- What a node means, made of what its children mean; and what a call of a function of the program does.
-use Rattle.std.specs.Prelude.{ℕ, zero, suc, List, [], ◌∷◌, map, Option, Some, None, true, false, cond, codes}
+use Rattle.std.specs.Prelude.{ℕ, zero, suc, List, [], ◌∷◌, map, Option, Some, None, Bool, true, false, cond, codes, is_some, ◌&&◌}
+use Rattle.std.specs.List.{list_all, list_any}
 use Rattle.ecma_kind.specs.declared.kind.Kind.{Kind}
 use Rattle.ecma_kind.specs.declared.kind.Kind.TheVariants as kind
 use Rattle.ecma_kind.specs.declared.operators.AssignOp.TheVariants.{Assign}
+use Rattle.ecma_kind.specs.declared.operators.BinaryOp.TheVariants.{LogicalOr}
 use Rattle.ecma_kind.specs.declared.operators.VarDeclKind.TheVariants.{Const}
 use Rattle.ecma_tree.specs.declared.node.Node.{Node, Node-F, fold-Node}
 use Rattle.ecma_tree.specs.Nodes.{node_of}
+use Rattle.ecma_enums.specs.Values.{is_text}
+use Rattle.ecma_enums.specs.declared.value.TsEnumRecordValue.{TsEnumRecordValue}
 use Rattle.ecma_runs.specs.Values.{Value, Undefined, Own, Host, Error}
-use Rattle.ecma_runs.specs.State.{Binding, Given, Activation, Sort, Plain, Method, Arrow, BaseClass, DerivedClass, Closure, Object, Ordinary}
+use Rattle.ecma_runs.specs.State.{Id, Binding, Given, Activation, Sort, Plain, Method, Arrow, BaseClass, DerivedClass, Closure, Object, Ordinary}
 use Rattle.ecma_runs.specs.Run.{Ended, TurnsSpent, Run, ◌>>=◌, give, outside, reference_error, type_error, when, given, given_or, returned_by, spend}
 use Rattle.ecma_runs.specs.Host.{Provided}
-use Rattle.ecma_runs.specs.Environment.{ToFree, empty, new_environment, activation_at}
+use Rattle.ecma_runs.specs.Environment.{Reference, ToFree, empty, is_among, new_environment, resolved, fill, activation_at}
+use Rattle.ecma_runs.specs.Enums.{Enums, known_value, as_value}
 use Rattle.ecma_runs.specs.Meaning.{Invocation, AsCall, AsConstruct, Functions, ExecutionContext, inside, Evaluation, Meaning, Known}
 use Rattle.ecma_runs.specs.Objects.{new_object, closure_at}
-use Rattle.ecma_runs.specs.Functions.{pass_function, prototype_for, read}
-use Rattle.ecma_runs.specs.Expressions.{value_of, reference_of, initial_of, arguments_of, elements_of, texts_of, key_of, chain_of, link_of, test_of}
+use Rattle.ecma_runs.specs.Functions.{pass_function, prototype_for, read, write}
+use Rattle.ecma_runs.specs.Expressions.{value_of, reference_of, written_of, initial_of, arguments_of, elements_of, texts_of, key_of, chain_of, link_of, test_of}
 use Rattle.ecma_runs.specs.Patterns.{assigned_of, bound_of, matched_of, targets_of, parameters_of}
 use Rattle.ecma_runs.specs.Classes.{made_of, default_made_of, class_made_of, defined_of, fields_of, statics_of, code_of, body_of, field_activation}
-use Rattle.ecma_runs.specs.Statements.{completion_of, varied_of, hoisted_of, last_of, effect_of, caught_of, switched_of, selected_of}
-use Rattle.ecma_runs.specs.Declarations.{names_of, default_names_of, lexicals_of, vars_of, locals_of, parameter_names_of, declared_of, last_declared_of, shorthands_of, imported_of, text_of, cooked_of, is_plain_of, is_computed_of, is_super_of, is_absent_of, is_required_of, is_this_of, is_type_of, has_body_of, is_constructor_of, has_no_effect, exports_of}
+use Rattle.ecma_runs.specs.Statements.{completion_of, varied_of, hoisted_of, last_of, effect_of, caught_of, switched_of, selected_of, member_of}
+use Rattle.ecma_runs.specs.Declarations.{names_of, default_names_of, lexicals_of, vars_of, locals_of, parameter_names_of, declared_of, last_declared_of, shorthands_of, imported_of, text_of, cooked_of, is_plain_of, is_computed_of, is_super_of, is_absent_of, is_required_of, is_this_of, is_type_of, has_body_of, is_constructor_of, has_no_effect, exports_of, member_texts_of}
 
 -- code runs in a record of its own
 abbrev pub in_record : List Binding → Option Activation → Evaluation (Unit {0}) → (ℕ → Value → Run Value) → ExecutionContext → Run Value
@@ -48,6 +53,7 @@ abbrev pub role_by : Node → Kind → List Meaning → Meaning
 role_by node k children = record {
   value = value_of node k children;
   reference = reference_of node k children;
+  written = written_of node k children;
   assigned = assigned_of node k children;
   initial = initial_of node k children;
   arguments = arguments_of node k children;
@@ -61,6 +67,7 @@ role_by node k children = record {
   targets = targets_of k children;
   parameters = parameters_of k children;
   completion = completed_of node k children;
+  member = member_of k children;
   varied = varied_of k children;
   hoisted = hoisted_of k children;
   last = last_of k children;
@@ -88,6 +95,7 @@ role_by node k children = record {
   shorthands = shorthands_of k children;
   imported = imported_of k children;
   text = text_of k children;
+  member_texts = member_texts_of k children;
   exports = exports_of k children;
   cooked = cooked_of k children;
   is_plain = is_plain_of k children;
@@ -127,6 +135,116 @@ constant_meaning node name value =
 abbrev pub set_export : Node → Meaning → Meaning → Meaning
 set_export node name value = role_by node (kind.AssignExpr Assign) (role_by node kind.MemberExpr (free_meaning node (codes "exports") ∷ text_key node name ∷ []) ∷ value ∷ [])
 
+-- enums (TypeScript handbook, "Enums"): what a part means is made of the pieces that are written for it
+--   enum E { A, B = "t" }   // (function(E) { E[E["A"] = 0] = "A"; E["B"] = "t"; })(E || (E = {}));
+
+-- a variable with these names
+abbrev pub variable_reference : List Id → Evaluation Reference
+variable_reference [] x = outside
+variable_reference (id ∷ ids) x = resolved x.scope x.known.declared id
+
+abbrev pub write_of : Evaluation Reference → Run Value → Evaluation Value
+write_of reference get x = reference x >>= λ r. get >>= λ v. write x r v >>= λ _. give v
+
+abbrev pub variable_meaning : Node → List Id → Meaning
+variable_meaning node ids = record (role_by node kind.Absent []) {
+  value = λ x. variable_reference ids x >>= λ r. read x r;
+  reference = variable_reference ids;
+  assigned = write_of (variable_reference ids);
+}
+
+-- an expression with this value, and one that may be missing
+abbrev pub value_meaning : Node → Evaluation Value → Meaning
+value_meaning node value = record (role_by node kind.Absent []) { value = value }
+
+abbrev pub text_meaning : Node → List ℕ → Meaning
+text_meaning node text = role_by node (kind.Str text None) []
+
+abbrev pub computed_member : Node → Meaning → Meaning → Meaning
+computed_member node object e = role_by node kind.MemberExpr (object ∷ role_by node kind.ComputedPropName (e ∷ []) ∷ [])
+
+--   E["A"] = v
+abbrev pub set_text : Node → Meaning → List ℕ → Meaning → Meaning
+set_text node enum text v = role_by node (kind.AssignExpr Assign) (computed_member node enum (text_meaning node text) ∷ v ∷ [])
+
+--   E[E["A"] = v] = "A"
+abbrev pub set_other : Node → Meaning → List ℕ → Meaning → Meaning
+set_other node enum text v = role_by node (kind.AssignExpr Assign) (computed_member node enum (set_text node enum text v) ∷ text_meaning node text ∷ [])
+
+abbrev pub set_by : Bool → Node → Meaning → List ℕ → Meaning → Meaning
+set_by true node enum text v = set_text node enum text v
+set_by false node enum text v = set_other node enum text v
+
+-- what is known of a member of an enum
+abbrev pub known_member : Enums → List Id → List ℕ → Option TsEnumRecordValue
+known_member enums [] text = None
+known_member enums (of ∷ ids) text = known_value enums of text
+
+abbrev pub is_known_text : Option TsEnumRecordValue → Bool
+is_known_text None = false
+is_known_text (Some v) = is_text v
+
+-- its value: what is known, or else that of the initialiser
+abbrev pub member_value : Node → Meaning → Option TsEnumRecordValue → Meaning
+member_value node init None = value_meaning node init.initial
+member_value node init (Some v) = value_meaning node (λ x. give (as_value v))
+
+abbrev pub set_member_by : Node → List Id → List ℕ → Option TsEnumRecordValue → Meaning → Evaluation (Unit {0})
+set_member_by node ids text known init =
+    (role_by node kind.ExprStmt (set_by (is_known_text known) node (variable_meaning node ids) text (member_value node init known) ∷ [])).completion
+
+abbrev pub member_by : Node → Bool → List Id → Meaning → Option (List ℕ) → Evaluation (Unit {0})
+member_by node leaves_out ids init None x = outside
+member_by node leaves_out ids init (Some text) x =
+    when (leaves_out && is_some (known_member x.known.enums ids text)) (give tt) (set_member_by node ids text (known_member x.known.enums ids text) init x)
+
+abbrev pub member_meaning : Node → Meaning → Meaning → Meaning
+member_meaning node name init = record (role_by node kind.TsEnumMember (name ∷ init ∷ [])) { member = λ leaves_out ids. member_by node leaves_out ids init name.text }
+
+-- whether members of a part are left out where their values are known
+abbrev pub leaves_out : Bool → Enums → List Id → Bool
+leaves_out is_const enums ids = is_const && list_any (λ id. is_among id enums.unwritten) ids
+
+-- whether all are
+abbrev pub is_left_out : Bool → Enums → List Id → List (List ℕ) → Bool
+is_left_out is_const enums ids texts = leaves_out is_const enums ids && list_all (λ text. is_some (known_member enums ids text)) texts
+
+abbrev pub members_meaning : Node → Bool → List Id → Meaning → Meaning
+members_meaning node is_const ids members =
+    record (role_by node kind.List []) { completion = λ x. members.member (leaves_out is_const x.known.enums ids) ids x }
+
+--   function(E) { .. }
+abbrev pub part_function : Node → Bool → Meaning → List Id → Meaning → Meaning
+part_function node is_const name ids members =
+    role_by node (kind.Function false false)
+    (role_by node kind.List (role_by node kind.Param (role_by node kind.BindingIdent (name ∷ role_by node kind.Absent [] ∷ []) ∷ []) ∷ [])
+    ∷ role_by node kind.BlockStmt (members_meaning node is_const ids members ∷ []) ∷ role_by node kind.Absent [] ∷ role_by node kind.Absent [] ∷ [])
+
+--   E || (E = {})
+abbrev pub part_object : Node → List Id → Meaning
+part_object node ids =
+    role_by node (kind.BinExpr LogicalOr)
+    (variable_meaning node ids ∷ role_by node (kind.AssignExpr Assign) (variable_meaning node ids ∷ role_by node kind.ObjectLit (role_by node kind.List [] ∷ []) ∷ []) ∷ [])
+
+-- a function expression without a name that is called where it stands
+abbrev pub called_function : Node → Meaning → Meaning → Evaluation (Unit {0})
+called_function node function arguments x =
+    new_environment [] None >>= λ place. pass_function node (inside x place) >>= λ f. arguments.arguments x >>= λ vs. spend >>= λ _.
+    in_record (map (empty false) function.parameter_names) (Some (called_with Undefined f None vs)) (function.code vs) as_it_is (inside x place) >>= λ _. give tt
+
+-- a part of an enum: where none of its members is written, its variable alone stands
+abbrev pub enum_part_by : Node → Bool → Meaning → List Id → List (List ℕ) → Meaning → Evaluation (Unit {0})
+enum_part_by node is_const name ids texts members x =
+    fill x.scope ids >>= λ _.
+    when (is_left_out is_const x.known.enums ids texts) (give tt)
+    (called_function node (part_function node is_const name ids members) (role_by node kind.List (part_object node ids ∷ [])) x)
+
+abbrev pub enum_part : Node → Bool → Meaning → Meaning → Evaluation (Unit {0})
+enum_part node is_const name members = enum_part_by node is_const name name.names members.member_texts members
+
+abbrev pub enum_meaning : Node → Bool → Meaning → Meaning → Meaning
+enum_meaning node is_const name members = record (role_by node (kind.TsEnumDecl false is_const) (name ∷ members ∷ [])) { completion = enum_part node is_const name members }
+
 -- an expression with a type means what the expression means, annotations, type parameters and type arguments what a missing child means, and what has no effect what an alias means, in every role
 abbrev pub meaning_by : Node → Kind → List Meaning → Meaning
 meaning_by node kind.ParenExpr (e ∷ []) = ending_chain e
@@ -144,6 +262,8 @@ meaning_by node kind.TsQualifiedName (left ∷ right ∷ []) = role_by node kind
 meaning_by node (kind.TsImportEqualsDecl false false) (name ∷ source ∷ []) = constant_meaning node name source
 meaning_by node (kind.TsImportEqualsDecl true false) (name ∷ source ∷ []) =
     cond source.is_required (constant_meaning node name (set_export node name source)) (role_by node kind.ExportDecl (constant_meaning node name source ∷ []))
+meaning_by node (kind.TsEnumDecl false is_const) (name ∷ members ∷ []) = enum_meaning node is_const name members
+meaning_by node kind.TsEnumMember (name ∷ init ∷ []) = member_meaning node name init
 meaning_by node k children = cond (has_no_effect k children) (no_effect node) (role_by node k children)
 
 -- a node, and what it means

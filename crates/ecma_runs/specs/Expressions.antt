@@ -14,18 +14,49 @@ use Rattle.ecma_kind.specs.declared.operators.UpdateOp.{UpdateOp}
 use Rattle.ecma_tree.specs.declared.node.Node.{Node}
 use Rattle.ecma_runs.specs.Values.{Value, Undefined, Null, Truth, Number, Text, Own, Host, Error, truth_of, is_nullish}
 use Rattle.ecma_runs.specs.State.{Id, Plain, Arrow, Ordinary}
-use Rattle.ecma_runs.specs.Run.{Run, ◌>>=◌, give, outside, type_error, when, given}
+use Rattle.ecma_runs.specs.Run.{Run, ◌>>=◌, give, outside, type_error, when, given, catching}
 use Rattle.ecma_runs.specs.Environment.{Reference, ToFree, ToMember, ToSuper, ToImportMeta, ToMetaMember, ToValue, resolved, activation, this, new_environment, set_all, empty}
+use Rattle.ecma_runs.specs.Enums.{Reading, Unknown, Constant, Expected, reading, member_reading, enum_of, is_hidden, is_data}
 use Rattle.ecma_runs.specs.Meaning.{ExecutionContext, inside, Evaluation, Meaning}
 use Rattle.ecma_runs.specs.Operators.{text_from, number_from, key_from, binary_value, operator_of, short_circuit, logical_operator_of, unary_value, updated}
-use Rattle.ecma_runs.specs.Objects.{super_base, new_object, new_array}
+use Rattle.ecma_runs.specs.Objects.{super_base, new_object, new_array, found_from}
 use Rattle.ecma_runs.specs.Members.{has_member, instance_of, type_of}
 use Rattle.ecma_runs.specs.Functions.{read, write, read_object, read_typed, delete, Callee, Called, CalledSuper, Borrowed, callee_by, call, construct, super_call, make_function, new_regular_expression}
 
 -- names and members
 
+-- a constant that is found as data of an own object; else it is open
+abbrev pub expected : Value → Reference → Run Reference
+expected v (ToMember (Own place) key) = found_from place key >>= λ p. when (is_data v p) (give (ToValue v)) outside
+expected v r = outside
+
+-- what is referred to where it is read, by what is known of it (TypeScript handbook, "Enums"); a look-up that throws finds no constant
+abbrev pub known_reference : Reading → Evaluation Reference → Evaluation Reference
+known_reference Unknown reference x = reference x
+known_reference (Constant v) reference x = give (ToValue v)
+known_reference (Expected v) reference x = catching (reference x) (λ thrown. outside) >>= λ r. expected v r
+
+-- the name of an enum of which a member is not written is open
+abbrev pub variable_named : Id → Evaluation Reference
+variable_named id x = when (is_hidden x.known.enums id) outside (resolved x.scope x.known.declared id)
+
+-- a name of a member is that member of the inner name
+abbrev pub own_member : Id → List ℕ → Evaluation Reference
+own_member of key x = resolved x.scope x.known.declared of >>= λ r. read_object x r >>= λ o. give (ToMember o key)
+
+abbrev pub named : Option Id → Id → Evaluation Reference
+named None id x = variable_named id x
+named (Some of) id x = known_reference (member_reading x.known.enums of id.sym) (own_member of id.sym) x
+
+abbrev pub written_name : Option Id → Id → Evaluation Reference
+written_name None id x = variable_named id x
+written_name (Some of) id x = own_member of id.sym x
+
 abbrev pub identifier : List ℕ → ℕ → Evaluation Reference
-identifier sym ctxt x = resolved x.scope x.known.declared (record { sym = sym; ctxt = ctxt })
+identifier sym ctxt x = named (enum_of (record { sym = sym; ctxt = ctxt }) x.known.enums.names) (record { sym = sym; ctxt = ctxt }) x
+
+abbrev pub written_identifier : List ℕ → ℕ → Evaluation Reference
+written_identifier sym ctxt x = written_name (enum_of (record { sym = sym; ctxt = ctxt }) x.known.enums.names) (record { sym = sym; ctxt = ctxt }) x
 
 -- `import.meta` has one known member: the script's text
 abbrev pub meta_member : ExecutionContext → List ℕ → Run Reference
@@ -38,6 +69,10 @@ member_of x r key = read_object x r >>= λ o. key >>= λ k. give (ToMember o k)
 -- 13.3.2 Property Accessors
 abbrev pub member_reference : Meaning → Meaning → Evaluation Reference
 member_reference object key x = object.reference x >>= λ r. member_of x r (key.key x)
+
+-- a member that is read
+abbrev pub read_member : Node → Meaning → Meaning → Evaluation Reference
+read_member node object key x = known_reference (reading x.known.enums node) (member_reference object key) x
 
 -- 13.3.7.3 MakeSuperPropertyReference: the base is taken here, behind the key; before super() has returned it is open
 abbrev pub super_reference : Meaning → Evaluation Reference
@@ -89,18 +124,18 @@ compound_rest None None r v right x = outside
 -- 13.15.2 Assignment Operators: Evaluation
 abbrev pub assign : AssignOp → Meaning → Meaning → Evaluation Value
 assign Assign target right x = target.assigned (right.value x) x
-assign op target right x = target.reference x >>= λ r. read x r >>= λ v. compound_rest (logical_operator_of op) (operator_of op) r v right x
+assign op target right x = target.written x >>= λ r. read x r >>= λ v. compound_rest (logical_operator_of op) (operator_of op) r v right x
 
 -- 13.5 Unary Operators
 abbrev pub unary : UnaryOp → Meaning → Evaluation Value
 unary operator.TypeOf operand x = operand.reference x >>= λ r. read_typed x r >>= λ v. type_of v
-unary operator.Delete operand x = operand.reference x >>= λ r. delete r
+unary operator.Delete operand x = operand.written x >>= λ r. delete r
 unary op operand x = operand.value x >>= λ v. given (unary_value op v)
 
 -- 13.4 Update Expressions
 abbrev pub update : UpdateOp → Bool → Meaning → Evaluation Value
 update op prefix operand x =
-    operand.reference x >>= λ r. read x r >>= λ v. given (number_from v) >>= λ old. given (updated op old) >>= λ new.
+    operand.written x >>= λ r. read x r >>= λ v. given (number_from v) >>= λ old. given (updated op old) >>= λ new.
     write x r (Number new) >>= λ _. give (Number (cond prefix new old))
 
 -- 13.16 Comma Operator
@@ -151,7 +186,7 @@ value_of node (kind.AssignExpr op) (target ∷ right ∷ []) x = assign op targe
 value_of node kind.CondExpr (test ∷ yes' ∷ no' ∷ []) x = test.value x >>= λ v. when (truth_of v) (yes'.value x) (no'.value x)
 value_of node kind.SeqExpr children x = sequence children x
 -- 13.3.2 Property Accessors, 13.3.7 The super Keyword
-value_of node kind.MemberExpr (object ∷ key ∷ []) x = member_reference object key x >>= λ r. read x r
+value_of node kind.MemberExpr (object ∷ key ∷ []) x = read_member node object key x >>= λ r. read x r
 value_of node kind.SuperPropExpr (super ∷ key ∷ []) x = super_reference key x >>= λ r. read x r
 -- 13.3.6 Function Calls, 13.3.5 The new Operator; type arguments have no effect
 value_of node kind.CallExpr (callee ∷ arguments ∷ types ∷ []) x = call_by callee.is_super callee arguments x
@@ -168,11 +203,18 @@ value_of node _ children x = outside
 abbrev pub reference_of : Node → Kind → List Meaning → Evaluation Reference
 reference_of node (kind.Ident sym ctxt optional) [] x = identifier sym ctxt x
 reference_of node kind.BindingIdent (id ∷ annotation ∷ []) x = id.reference x
-reference_of node kind.MemberExpr (object ∷ key ∷ []) x = member_reference object key x
+reference_of node kind.MemberExpr (object ∷ key ∷ []) x = read_member node object key x
 reference_of node kind.SuperPropExpr (super ∷ key ∷ []) x = super_reference key x
 reference_of node (kind.MetaPropExpr ImportMeta) [] x = give ToImportMeta
 reference_of node (kind.OptChainExpr optional) (base ∷ []) x = base.link optional x >>= λ o. give (chained o)
 reference_of node k children x = value_of node k children x >>= λ v. give (ToValue v)
+
+-- what it refers to where it is written: a name and a member are themselves there, whatever is known of them
+abbrev pub written_of : Node → Kind → List Meaning → Evaluation Reference
+written_of node (kind.Ident sym ctxt optional) [] x = written_identifier sym ctxt x
+written_of node kind.BindingIdent (id ∷ annotation ∷ []) x = id.written x
+written_of node kind.MemberExpr (object ∷ key ∷ []) x = member_reference object key x
+written_of node k children x = reference_of node k children x
 
 -- optional chains
 

@@ -1,5 +1,5 @@
 -- The laws of `observe`.
-use Rattle.std.specs.Prelude.{◌≡◌, ◌≢◌, ℕ, ◌+◌, List, [], ◌++◌, IsTrue}
+use Rattle.std.specs.Prelude.{◌≡◌, ◌≢◌, ℕ, ◌+◌, List, [], ◌++◌, true, IsTrue}
 use Rattle.ecma_tree.specs.declared.node.Node.{Node}
 use Rattle.ecma_runs.specs.Erasure.{without_types}
 use Rattle.ecma_config.specs.declared.config.Config.{Config}
@@ -15,6 +15,7 @@ use Rattle.ecma_runs.specs.Host.{Provided}
 use Rattle.ecma_runs.specs.Meaning.{Invocation, Known}
 use Rattle.ecma_runs.specs.Evaluation.{apply, invoke}
 use Rattle.ecma_runs.specs.Observation.{observe, module_context, run_body, act}
+use Rattle.ecma_runs.specs.Enums.{lacks_enums}
 use Rattle.ecma_runs.specs.Names.{renamed, IsRenaming}
 use Rattle.ecma_runs.specs.Meeting.{MayMeet}
 use Rattle.ecma_runs.specs.Sources.{AgreeUpToSources}
@@ -33,9 +34,9 @@ TypesDoNotMatter = (turns : ℕ) (options : Config) (m : Node) (script : Script)
 abbrev pub WrappersDoNotMatter : Type 0
 WrappersDoNotMatter = (turns : ℕ) (options : Config) (m : Node) (script : Script) → observe turns options (without_wrappers m) script ≡ observe turns options m script
 
--- a tree runs as it does without parentheses that end no optional chain
+-- a tree without enums runs as it does without parentheses that end no optional chain
 abbrev pub ParenthesesDoNotMatter : Type 0
-ParenthesesDoNotMatter = (turns : ℕ) (options : Config) (m : Node) (script : Script) → observe turns options (without_parentheses m) script ≡ observe turns options m script
+ParenthesesDoNotMatter = (turns : ℕ) (options : Config) (m : Node) (script : Script) → lacks_enums m ≡ true → observe turns options (without_parentheses m) script ≡ observe turns options m script
 
 -- names may be mapped one to one, but for the texts of free ones and of keys
 abbrev pub NamesDoNotMatter : Type 0

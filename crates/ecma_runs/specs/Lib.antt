@@ -4,6 +4,7 @@ pub mod Exports
 pub mod Run
 pub mod Host
 pub mod Environment
+pub mod Enums
 pub mod Meaning
 pub mod Objects
 pub mod Operators

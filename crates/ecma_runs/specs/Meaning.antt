@@ -6,6 +6,7 @@ use Rattle.ecma_runs.specs.Exports.{Exported}
 use Rattle.ecma_runs.specs.Run.{Run}
 use Rattle.ecma_runs.specs.Host.{Provided}
 use Rattle.ecma_runs.specs.Environment.{Reference}
+use Rattle.ecma_runs.specs.Enums.{Enums}
 
 -- a call with this value as `this`, or a construction with this new.target
 pub data Invocation : Type 0 where
@@ -23,6 +24,7 @@ pub record Functions : Type 0 where
 pub record Known : Type 0 where
   -- the ids that it declares, in any scope
   pub declared : List Id
+  pub enums : Enums
 
 -- what stands around a node when it is evaluated (ECMAScript, 9.4 Execution Contexts)
 pub record ExecutionContext : Type 0 where
@@ -46,6 +48,8 @@ pub record Meaning : Type 0 where
   -- as an expression (ECMAScript, 13): its value, and what it refers to, if it is a reference (6.2.5)
   pub value : Evaluation Value
   pub reference : Evaluation Reference
+  -- what it refers to where it is assigned to, updated or deleted
+  pub written : Evaluation Reference
   -- as a target that gets what a run gives, and gives that too (13.15.2, 13.15.5 Destructuring Assignment)
   pub assigned : Run Value → Evaluation Value
   -- as the initializer of a declared name, the operand of `return`, the value of a field
@@ -70,6 +74,8 @@ pub record Meaning : Type 0 where
   pub parameters : List Value → Evaluation (List Value)
   -- as a statement or a declaration (14)
   pub completion : Evaluation (Unit {0})
+  -- as a member of an enum with this name, which is written unless it is known and such members are left out
+  pub member : Bool → List Id → Evaluation (Unit {0})
   -- as declarators of `var` (14.3.2.1)
   pub varied : Evaluation (Unit {0})
   -- as a statement of a scope that is entered: its functions are set (14.2.3 BlockDeclarationInstantiation)
@@ -119,6 +125,8 @@ pub record Meaning : Type 0 where
   -- the variables of imports from a source, and the text of it or of an imported name
   pub imported : List ℕ → List Binding
   pub text : Option (List ℕ)
+  -- the names of the members of an enum that it is or lists
+  pub member_texts : List (List ℕ)
   -- what it exports, behind `from` that source
   pub exports : Option (List ℕ) → List Exported
   -- of text parts of a template: what they say, if all their escapes are well formed

@@ -10,6 +10,7 @@ use Rattle.ecma_runs.specs.Exports.{Exported, Local, Indirect, Star, local_ids, 
 use Rattle.ecma_runs.specs.Environment.{ids_of, is_among, except}
 use Rattle.ecma_runs.specs.Declarations.{parameter_names_of}
 use Rattle.ecma_runs.specs.Sought.{Seeker, meanings, outside_of, all_sought, code_sought_of, seeker}
+use Rattle.ecma_runs.specs.Enums.{lacks_enums}
 use Rattle.ecma_runs.specs.Evaluation.{meaning}
 use Rattle.ecma_runs.specs.Observation.{exports_in}
 use Rattle.ecma_runs.specs.Names.{ids_pass, keys_in, TextsStay}
@@ -77,10 +78,11 @@ exports_meet to ids (Local name id ∷ entries) = is_told to ids id && (catches_
 exports_meet to ids (Indirect name source imported ∷ entries) = exports_meet to ids entries
 exports_meet to ids (Star ∷ entries) = exports_meet to ids entries
 
--- a map of names under which names may become one where no identifier is caught; it keeps the texts of keys and of names that the tree declares nowhere,
+-- of a tree without enums, a map of names under which names may become one where no identifier is caught; it keeps the texts of keys and of names that the tree declares nowhere,
 -- and which names are the `this` of a parameter that types it; what is exported under its own name keeps its text, and the variable of a default export
 -- without a name its name
 pub record MayMeet (to : Id → Id) (m : Node) : Type 0 where
+  pub no_enums : lacks_enums m ≡ true
   pub stands : Id → Bool
   pub all_stand : ids_pass stands m ≡ true
   pub none_caught : (met to m).meets ≡ true

@@ -9,6 +9,7 @@ use Rattle.ecma_tree.specs.Rewritten.{rewritten}
 use Rattle.ecma_runs.specs.State.{Id, default_name}
 use Rattle.ecma_runs.specs.Exports.{export_names}
 use Rattle.ecma_runs.specs.Environment.{is_among}
+use Rattle.ecma_runs.specs.Enums.{lacks_enums}
 use Rattle.ecma_runs.specs.Evaluation.{meaning}
 use Rattle.ecma_runs.specs.Observation.{exports_in}
 
@@ -91,10 +92,11 @@ abbrev pub TextsStay : (Id → Id) → List Id → Type 0
 TextsStay to [] = Unit {0}
 TextsStay to (id ∷ ids) = ((to id).sym ≡ id.sym) × TextsStay to ids
 
--- a map of names that is one to one on a set of names in which each identifier of the tree stands; it keeps the texts of keys
+-- of a tree without enums, a map of names that is one to one on a set of names in which each identifier of the tree stands; it keeps the texts of keys
 -- and of names that the tree declares nowhere, and which names are the `this` of a parameter that types it; what is exported under its own name keeps
 -- its text, and the variable of a default export without a name its name
 pub record IsRenaming (to : Id → Id) (m : Node) : Type 0 where
+  pub no_enums : lacks_enums m ≡ true
   pub stands : Id → Bool
   pub all_stand : ids_pass stands m ≡ true
   pub one_to_one : (a b : Id) → stands a ≡ true → stands b ≡ true → to a ≡ to b → a ≡ b

@@ -1,6 +1,6 @@
 -- What the host observes of a module: the events, and how the run of its body and of a script's actions ends.
 -- All of it is this project's own, but for the order of a module's run (ECMAScript, 16.2.1.6 Source Text Module Records).
-use Rattle.std.specs.Prelude.{ℕ, List, [], ◌∷◌, Some, None, Bool, true, false, not, ◌&&◌, ◌||◌, bytes_eq}
+use Rattle.std.specs.Prelude.{ℕ, List, [], ◌∷◌, map, Some, None, Bool, true, false, not, ◌&&◌, ◌||◌, bytes_eq}
 use Rattle.ecma_tree.specs.declared.node.Node.{Node}
 use Rattle.ecma_config.specs.declared.config.Config.{Config}
 use Rattle.ecma_runs.specs.declared.observation.Event.{Event}
@@ -13,9 +13,10 @@ use Rattle.ecma_runs.specs.declared.script.Answer.TheVariants as answer
 use Rattle.ecma_runs.specs.declared.script.Script.{Script}
 use Rattle.ecma_runs.specs.Values.{Value, Undefined}
 use Rattle.ecma_runs.specs.State.{Id, same_id, Entered, Unbound, Activation, State}
-use Rattle.ecma_runs.specs.Exports.{Exported, Local, Indirect, Star, local_name, has_star}
+use Rattle.ecma_runs.specs.Exports.{Exported, Local, Indirect, Star, local_ids, local_name, has_star}
 use Rattle.ecma_runs.specs.Run.{Outcome, Done, Thrown, Returned, Broken, Continued, Ended, Stop, TurnsSpent, AnswersSpent, Outside, Run, ◌>>=◌, give, outside, when, each}
-use Rattle.ecma_runs.specs.Environment.{new_environment, read_variable}
+use Rattle.ecma_runs.specs.Environment.{filled, new_environment, read_variable}
+use Rattle.ecma_runs.specs.Enums.{Enums, bare, enums_in}
 use Rattle.ecma_runs.specs.Host.{Provided, provided_by, handled, taken, show, import_value, taken_if}
 use Rattle.ecma_runs.specs.Meaning.{Known, ExecutionContext}
 use Rattle.ecma_runs.specs.Members.{member, set_member}
@@ -87,10 +88,6 @@ done_by x exports (action.New handle arguments) = handled handle >>= λ f. each 
 abbrev pub act : ExecutionContext → List Exported → Action → Run Answer
 act x exports a = shown_to_host (done_by x exports a)
 
--- what is known of a module
-abbrev pub known_of : Node → Known
-known_of m = record { declared = (meaning m).declared }
-
 -- the execution context of a module's run
 abbrev pub module_context : Provided → Known → Entered → ExecutionContext
 module_context provided known entered = record { functions = functions_with (invoke provided known) provided known; scope = entered ∷ []; provided = provided; known = known }
@@ -112,12 +109,19 @@ module_activation = record { this = Some Undefined; function = None; home = None
 abbrev pub exports_in : Node → List Exported
 exports_in m = (meaning m).exports None
 
+-- what is known of a module: the enums of the tree without types, which its exports ask for
+abbrev pub enums_of : Config → Node → Enums
+enums_of options m = enums_in options (meaning m).declared (local_ids (exports_in m)) (bare m)
+
+abbrev pub known_of : Config → Node → Known
+known_of options m = record { declared = (meaning m).declared; enums = enums_of options m }
+
 -- a module's run: its scope is entered, its body runs, and then the actions
-abbrev pub run_module : Node → Script → Run Ending
-run_module m script =
-    new_environment (meaning m).locals (Some module_activation) >>= λ place.
-    run_body (module_context (provided_by script) (known_of m) place) m >>= λ outcome.
-    run_actions (module_context (provided_by script) (known_of m) place) (exports_in m) script.actions outcome
+abbrev pub run_module : Known → Node → Script → Run Ending
+run_module known m script =
+    new_environment (map filled (meaning m).locals) (Some module_activation) >>= λ place.
+    run_body (module_context (provided_by script) known place) m >>= λ outcome.
+    run_actions (module_context (provided_by script) known place) (exports_in m) script.actions outcome
 
 -- the state in which a run begins
 abbrev pub start : ℕ → Script → State
@@ -138,4 +142,4 @@ observed (Ended why s) = record { events = s.events; ending = ending_of why }
 
 -- what the host observes of a module with a script, in so many turns in all
 abbrev pub observe : ℕ → Config → Node → Script → Observation
-observe turns options m script = observed (run_module m script (start turns script))
+observe turns options m script = observed (run_module (known_of options m) m script (start turns script))

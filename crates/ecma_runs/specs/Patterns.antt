@@ -10,7 +10,7 @@ use Rattle.ecma_runs.specs.Environment.{initialize}
 use Rattle.ecma_runs.specs.Meaning.{Evaluation, Meaning}
 use Rattle.ecma_runs.specs.Members.{member}
 use Rattle.ecma_runs.specs.Functions.{write, first_or_undefined, all_but_first}
-use Rattle.ecma_runs.specs.Expressions.{reference_of}
+use Rattle.ecma_runs.specs.Expressions.{written_of}
 
 -- a default stands in for undefined
 abbrev pub or_default : Meaning → Run Value → Evaluation Value
@@ -21,7 +21,7 @@ abbrev pub assigned_of : Node → Kind → List Meaning → Run Value → Evalua
 assigned_of node (kind.ObjectPat optional) (properties ∷ type ∷ []) get x =
     get >>= λ v. when (is_nullish v) type_error (properties.targets v x) >>= λ _. give v
 assigned_of node kind.AssignPat (target ∷ default ∷ []) get x = target.assigned (or_default default get x) x
-assigned_of node k children get x = reference_of node k children x >>= λ r. get >>= λ v. write x r v >>= λ _. give v
+assigned_of node k children get x = written_of node k children x >>= λ r. get >>= λ v. write x r v >>= λ _. give v
 
 abbrev pub all_targets : List Meaning → Value → Evaluation (Unit {0})
 all_targets [] v x = give tt

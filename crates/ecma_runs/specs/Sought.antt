@@ -87,7 +87,7 @@ sought_of kind.BreakStmt children = []
 sought_of kind.ContinueStmt children = []
 sought_of (kind.ImportDecl type_only) children = []
 sought_of (kind.TsTypeAliasDecl declare) children = []
--- what opens a scope of its own and has a clause in no role: no run comes to what it has
+-- what opens a scope of its own and has a clause in no role: no run comes to what it has; and enums, which stand in no tree whose names may meet
 sought_of (kind.Script shebang) children = []
 sought_of kind.ForInStmt children = []
 sought_of (kind.ForOfStmt is_await) children = []

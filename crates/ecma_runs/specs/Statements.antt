@@ -5,7 +5,7 @@ use Rattle.ecma_kind.specs.declared.kind.Kind.TheVariants as kind
 use Rattle.ecma_kind.specs.declared.operators.VarDeclKind.TheVariants.{Var, Let, Const}
 use Rattle.ecma_tree.specs.declared.node.Node.{Node}
 use Rattle.ecma_runs.specs.Values.{Value, Own, truth_of}
-use Rattle.ecma_runs.specs.State.{default_name, Entered, Plain}
+use Rattle.ecma_runs.specs.State.{default_name, Entered, Plain, Id}
 use Rattle.ecma_runs.specs.Run.{TurnsSpent, Run, ◌>>=◌, give, throw, return, break, continue, stop, outside, when, given, catching, finally, round, loop, spend}
 use Rattle.ecma_runs.specs.Environment.{ToFree, ToMember, initialize, empty, new_environment, copy_environment}
 use Rattle.ecma_runs.specs.Meaning.{inside, Evaluation, Meaning}
@@ -114,6 +114,16 @@ abbrev pub effect_of : Node → Kind → List Meaning → Evaluation (Unit {0})
 effect_of node kind.Absent children x = give tt
 effect_of node (kind.VarDecl word declare) children x = completion_of (kind.VarDecl word declare) children x
 effect_of node k children x = value_of node k children x >>= λ _. give tt
+
+abbrev pub all_members : Bool → List Id → List Meaning → Evaluation (Unit {0})
+all_members leaves_out ids [] x = give tt
+all_members leaves_out ids (m ∷ ms) x = m.member leaves_out ids x >>= λ _. all_members leaves_out ids ms x
+
+-- members of an enum, in the order of the text
+abbrev pub member_of : Kind → List Meaning → Bool → List Id → Evaluation (Unit {0})
+member_of kind.List items leaves_out ids x = all_members leaves_out ids items x
+member_of (kind.TsTypeAliasDecl declare) children leaves_out ids x = give tt
+member_of _ children leaves_out ids x = outside
 
 abbrev pub all_varied : List Meaning → Evaluation (Unit {0})
 all_varied [] x = give tt

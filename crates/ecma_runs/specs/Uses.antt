@@ -5,7 +5,7 @@ use Rattle.ecma_kind.specs.declared.kind.Kind.{Kind}
 use Rattle.ecma_kind.specs.declared.kind.Kind.TheVariants as kind
 use Rattle.ecma_tree.specs.declared.node.Node.{Node, Node-F, fold-Node}
 
--- neither a member nor a call: no property access, no dotted name, no property of a pattern, no call and no construction, and no assignment of a CommonJS module
+-- neither a member nor a call: no property access, no dotted name, no property of a pattern, no call and no construction, no assignment of a CommonJS module, and no enum
 abbrev pub uses_nothing_by : Kind → Bool
 uses_nothing_by kind.MemberExpr = false
 uses_nothing_by kind.SuperPropExpr = false
@@ -17,6 +17,8 @@ uses_nothing_by kind.OptCall = false
 uses_nothing_by kind.NewExpr = false
 uses_nothing_by kind.TsExternalModuleRef = false
 uses_nothing_by kind.TsExportAssignment = false
+uses_nothing_by (kind.TsEnumDecl false is_const) = false
+uses_nothing_by kind.TsEnumMember = false
 uses_nothing_by k = true
 
 abbrev pub uses_nothing_step : Node-F Bool → Bool

@@ -6,3 +6,5 @@ pub mod Telling
 mod Valueless
 mod Going
 pub mod Sorted
+pub mod Lasting
+pub mod Bare

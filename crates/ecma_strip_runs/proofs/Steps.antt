@@ -1,5 +1,5 @@
 -- A node from which only types go means what it means without them; so what is observed stays.
-use Rattle.std.proofs.Common.{◌≡◌, refl, sym, ap, ◌∙◌, subst, List, [], ◌∷◌, map, Bool, true, false, ◌&&◌, ◌||◌, not, cond, filter, add-zero}
+use Rattle.std.proofs.Common.{◌≡◌, refl, sym, ap, ◌∙◌, subst, List, [], ◌∷◌, map, None, Bool, true, false, ◌&&◌, ◌||◌, not, cond, filter, add-zero}
 use Rattle.std.specs.List.{list_all}
 use Rattle.std.proofs.lemmas.Bool.{and_parts}
 use Rattle.ecma_kind.specs.declared.kind.Kind.{Kind}
@@ -13,15 +13,17 @@ use Rattle.ecma_runs.specs.Meaning.{Known, Meaning}
 use Rattle.ecma_runs.specs.Declarations.{has_no_effect}
 use Rattle.ecma_runs.specs.Evaluation.{role_by, no_effect, meaning_by, meaning}
 use Rattle.ecma_runs.proofs.Layer.{meaning-roll, meaning_out}
-use Rattle.ecma_runs.proofs.Alike.{Change}
+use Rattle.ecma_runs.proofs.Alike.{Change, EnumsStand}
 use Rattle.ecma_runs.proofs.Meanings.{Same}
 use Rattle.ecma_runs.proofs.Premises.{KeptLayer}
 use Rattle.ecma_runs.proofs.Lists.{Silent}
 use Rattle.ecma_runs.proofs.Steps.{plain_step}
 use Rattle.ecma_runs.proofs.Types.{alias_silent}
+use Rattle.ecma_runs.specs.Enums.{no_enums}
 use Rattle.ecma_runs.specs.Observation.{known_of, observe}
+use Rattle.ecma_runs.proofs.EnumTrees.{bare_lacking_enums, lacking_enums, no_reading}
 use Rattle.ecma_runs.proofs.Kept.{StepsAlike, observe_unless}
-use Rattle.ecma_runs.proofs.Layers.{plain_starts, images_where, texts_stay, the_same, none_excused, same_kind, kept_layer}
+use Rattle.ecma_runs.proofs.Layers.{same_names, true_false, plain_starts, images_where, texts_stay, the_same, none_excused, same_kind, kept_layer}
 use Rattle.ecma_strip.specs.Staying.{is_empty_stmt, item_stays, stays}
 use Rattle.ecma_strip.specs.Stripping.{body_of, plain, plain_children, plain_kind, stripped, without_empty, without_this}
 use Rattle.ecma_strip.proofs.Stripping.{stripped-roll}
@@ -54,6 +56,9 @@ nothing_meaning n kind.TsQualifiedName ms h = absurd (cc)
 nothing_meaning n (kind.TsImportEqualsDecl is_export false) ms h = absurd (cc)
 nothing_meaning n (kind.TsImportEqualsDecl true true) ms h = refl
 nothing_meaning n (kind.TsImportEqualsDecl false true) ms h = refl
+nothing_meaning n (kind.TsEnumDecl true is_const) ms h = refl
+nothing_meaning n (kind.TsEnumDecl false is_const) ms h = absurd (cc)
+nothing_meaning n kind.TsEnumMember ms h = absurd (cc)
 nothing_meaning n k ms h = cond_true (has_no_effect k ms) h (no_effect n) (role_by n k ms)
 
 does_nothing_means : (n : Node) → does_nothing n ≡ true → meaning n ≡ no_effect absent
@@ -77,9 +82,9 @@ Layer span k ns = record { span = span; kind = k; children = ns }
 setter_meaning : (n : Node) (key type other parameter body : Meaning) → meaning_by n kind.SetterProp (key ∷ type ∷ parameter ∷ body ∷ []) ≡ meaning_by n kind.SetterProp (key ∷ other ∷ parameter ∷ body ∷ [])
 setter_meaning n key type other parameter body = refl
 
-module _ (known : Known) where
+module _ (known : Known) (enums : EnumsStand known.enums same_names true None stripped Fine) (has : enums.has ≡ true) where
   abbrev pub stripping : Change
-  stripping = images_where Fine stripped known the_same
+  stripping = images_where Fine stripped known the_same enums
 
   abbrev Same' : Node → Node → Type 0
   Same' n n' = Same stripping (meaning n) (meaning n')
@@ -96,7 +101,7 @@ module _ (known : Known) where
   nodes children = map (λ child. child.0) children
 
   kept_kind : (k : Kind) (ms : List Meaning) → KeptLayer stripping k ms
-  kept_kind k ms = kept_layer Fine stripped known the_same k ms
+  kept_kind k ms = kept_layer Fine stripped known the_same enums k ms (λ e. has)
 
   absent_fine : Fine absent
   unfolding fine_by
@@ -177,7 +182,7 @@ module _ (known : Known) where
       let image : meaning (stripped n) ≡ meaning_by (stripped n) k (map meaning ns') =
       rw e (meaning-roll (Layer span (plain_kind k) ns') ∙ plain_meaning (node_of span (plain_kind k) ns') k (map meaning ns') concrete) in
       let same = layer_alike stripping refl n fine k alike (kept_kind k (map meaning ns)) in
-      rw (meaning-roll (Layer span k ns), image) (subst (λ k'. Same stripping (meaning_by n k (map meaning ns)) (meaning_by (stripped n) k' (map meaning ns'))) (same_kind Fine stripped known the_same k) same)
+      rw (meaning-roll (Layer span k ns), image) (subst (λ k'. Same stripping (meaning_by n k (map meaning ns)) (meaning_by (stripped n) k' (map meaning ns'))) (same_kind Fine stripped known the_same enums k) same)
 
   missing_step : (span : Span) (k : Kind) (children : List Child) → ((n : Node) (ms : List Meaning) → meaning_by n k ms ≡ role_by absent kind.Absent []) → stripped (node_of span k (nodes children)) ≡ absent
       → Same' (node_of span k (nodes children)) (stripped (node_of span k (nodes children)))
@@ -375,7 +380,21 @@ module _ (known : Known) where
   steps : StepsAlike stripping
   steps x ns is fine = (each_stripped (roll-Node x)).same
 
+-- where nothing is known of enums, nothing is known of them without what goes
+
+abbrev stripped_stand : (known : Known) (may_change : Bool) → known.enums ≡ no_enums may_change → EnumsStand known.enums same_names true None stripped Fine
+stripped_stand known may_change is = record {
+  has = true;
+  may_change = may_change;
+  lacking = λ e. absurd (true_false e);
+  exact = λ e. record { plain = refl; same = λ id. refl; all = λ id. refl; used = refl; nothing_passed = refl };
+  reads = λ n h. no_reading known.enums may_change is (stripped n) n;
+}
+
 pub stripping_keeps_runs : StrippingKeepsRuns
-stripping_keeps_runs turns options m script h =
+stripping_keeps_runs turns options m script h none_before none_behind =
+    let known : Known = known_of options m in
+    let none : known.enums ≡ no_enums options.ts_enum_is_mutable = bare_lacking_enums options m none_before in
+    let stand : EnumsStand known.enums same_names true None stripped Fine = stripped_stand known options.ts_enum_is_mutable none in
     ap (λ n. observe n options (stripped m) script) (sym (add-zero turns))
-    ∙ observe_unless (stripping (known_of m)) refl (steps (known_of m)) refl refl turns options m script h refl plain_starts tt tt (none_excused _)
+    ∙ observe_unless (stripping known stand refl) refl (steps known stand refl) refl refl turns options m script h refl (lacking_enums options (stripped m) none_behind ∙ sym none) plain_starts tt tt (none_excused _)

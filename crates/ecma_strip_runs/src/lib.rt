@@ -6,7 +6,7 @@
 ghost use Rattle.ecma_strip_runs.specs.Laws.{OnlyTypesGo, StrippingKeepsRuns};
 
 /// A module without its types is observed to do what it does with them, for every script of the host and every number of turns, where what goes does
-/// nothing: of each tree from which only types go.
+/// nothing, and no enum stays: of each tree from which only types go.
 pub fn stripping_keeps_runs()
     ensures { StrippingKeepsRuns }
 {}

@@ -10,7 +10,7 @@ pub fn read_modules_have_usual_bodies()
     ensures { ReadModulesHaveUsualBodies }
 {}
 
-/// What is read as a module is observed to do without its types what it does with them.
+/// What is read as a module, and in which no enum stays, is observed to do without its types what it does with them.
 pub fn read_modules_run_stripped()
     ensures { ReadModulesRunStripped }
 {}

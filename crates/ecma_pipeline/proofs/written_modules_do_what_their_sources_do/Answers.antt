@@ -15,6 +15,7 @@ returns c = written_modules (record {
   bound_runs = c.bound_sources_run_alike.ensures;
   bound_interface = c.bound_sources_have_their_interface.ensures;
   contexts_made = c.contexts_make_no_names.ensures;
+  contexts_taken = c.resolved_trees_are_taken.ensures;
   ready = c.bound_sources_are_ready.ensures;
   lowered_made = c.lowering_makes_free_names_alone.ensures;
   declares = c.scopes_declare_what_runs_declare.ensures;
