@@ -16,14 +16,14 @@ use Rattle.ecma_tree.specs.Sorted.{HasShape, child_shapes, is_absent, is_list, i
 use Rattle.ecma_tree.specs.declared.node.Node.{Node, Node-F, ind-Node, out-Node, roll-Node}
 use Rattle.ecma_tree.specs.declared.node.Node.TheViews.{out-roll-Node, roll-out-Node}
 use Rattle.ecma_tree.proofs.ShapeLaws.{node_has_shape}
-use Rattle.ecma_strip.specs.Staying.{is_empty_stmt, item_stays, stays}
+use Rattle.ecma_strip.specs.Staying.{is_empty_stmt, stays}
 use Rattle.ecma_strip.specs.Stripping.{body_of, changed_at, plain, plain_children, plain_kind, staying_nodes, stripped, without_empty, without_this}
 use Rattle.ecma_rewriting.specs.Laws.{children, items, layer}
 use Rattle.ecma_rewriting.specs.Rewriting.{Rewriting, becomes, only, over_ones}
 use Rattle.ecma_rewriting.proofs.Equations.{becomes-roll, layer-other, list-kind, nodes_become}
-use Rattle.ecma_strip_rewriting.specs.Commuting.{Commutes, CommutesWithStripping, SeesNoTypes, StaysFull, is_body_at, is_full, is_settled, is_type, of_all, of_staying}
-use Rattle.ecma_strip_rewriting.proofs.PlainKinds.{IsStatement, child-at, children-unchanged, class, expr-full, filter-all, filter-none, full-roll, no, plain-same, shape-out, some-same, statement-plain, stripped-list, stripped-other, type-plain, usual-plain, wrapper-plain}
-use Rattle.ecma_strip_rewriting.proofs.Stays.{item-roll}
+use Rattle.ecma_strip_rewriting.specs.Commuting.{Commutes, CommutesWithStripping, SeesNoTypes, StaysFull, is_body_at, is_full, is_settled, is_type, is_variables, of_all, of_staying}
+use Rattle.ecma_strip_rewriting.proofs.PlainKinds.{IsStatement, child-at, children-unchanged, class, expr-full, filter-all, filter-none, full-roll, no, plain-same, shape-out, some-same, statement-plain, stripped-list, stripped-other, type-plain, usual-plain, variables-item, wrapper-plain}
+use Rattle.ecma_strip_rewriting.proofs.Stays.{item-roll, item_by}
 
 cond-true : {X : Type 0} (b : Bool) (x y : X) → b ≡ true → cond b x y ≡ x
 cond-true b x y h = ap (λ z. cond z x y) h
@@ -344,29 +344,39 @@ module _ {S : Type 0} (r : Rewriting S) (raw : S → Bool) (leaves : S → Kind 
   raw-same : (f : Node → Node) (s : S) (x : Node) → raw s ≡ true → SameAt f s x
   raw-same f s x h = ap only (raw-stays (λ n. true) (f x) s h) ∙ ap (λ z. f (only z)) (sym (raw-stays (λ n. true) x s h))
 
-  body-by : (b : Bool) (s : S) (x e : Node) → becomes W s x ≡ x ∷ [] → becomes W s e ≡ e ∷ [] → only (becomes W s (cond b x e)) ≡ cond b x e
-  body-by true s x e is gone = ap only is
-  body-by false s x e is gone = ap only gone
-
   module _ (s : S) (k : Kind) (cs : List Node) (i : ℕ) (at : is_body_at k i ≡ true) (outer : raw s ≡ false) where
     abbrev seat : S
     seat = r.seat s k cs i
 
+    body-of-roll : (span : Span) (l : Kind) (ds : List Node) → body_of (node_of span l ds) ≡ cond (item_by l ds) (node_of span l ds) (node_of span kind.EmptyStmt [])
+    body-of-roll span l ds =
+        ap (λ b. cond b (node_of span l ds) (node_of (out-Node (node_of span l ds)).span kind.EmptyStmt [])) (item-roll span l ds)
+        ∙ ap (λ (z : Node-F Node). cond (item_by l ds) (node_of span l ds) (node_of z.span kind.EmptyStmt [])) (out-roll-Node (record { span = span; kind = l; children = ds }))
+
+    -- a body that becomes one node of its kind, of which it is the same whether it stays
+    body-one : (span : Span) (l : Kind) (ds ys : List Node) → item_by l ds ≡ item_by l ys → raw seat ≡ false → becomes W seat (node_of span l ds) ≡ node_of span l ys ∷ []
+        → SameAt body_of seat (node_of span l ds)
+    body-one span l ds ys same h is =
+        ap (λ z. only (becomes W seat z)) (body-of-roll span l ds) ∙ by (item_by l ds)
+        ∙ ap (λ b. cond b (node_of span l ys) (node_of span kind.EmptyStmt [])) same
+        ∙ sym (ap (λ z. body_of (only z)) is ∙ body-of-roll span l ys)
+      where
+        by : (b : Bool) → only (becomes W seat (cond b (node_of span l ds) (node_of span kind.EmptyStmt []))) ≡ cond b (node_of span l ys) (node_of span kind.EmptyStmt [])
+        by true = ap only is
+        by false = ap only (leaf (λ n. true) seat span kind.EmptyStmt false h refl refl refl)
+
     body-kind : (span : Span) (l : Kind) (ds : List Node) → is_list l ≡ false → is_type_wrapper l ≡ false → IsStatement l → raw seat ≡ false → SameAt body_of seat (node_of span l ds)
-    body-kind span l ds n w (inl d) h =
-        let x = node_of span l ds in
-        let empty = node_of (out-Node x).span kind.EmptyStmt [] in
-        let is : becomes W seat x ≡ x ∷ [] = becomes-other (λ n. true) seat span l ds n ∙ p.bodies s k l cs ds i span (children W (r.seat seat l ds) 0 ds) outer at d in
-        let gone : becomes W seat empty ≡ empty ∷ [] = leaf (λ n. true) seat (out-Node x).span kind.EmptyStmt false h refl refl refl in
-        body-by (item_stays x) seat x empty is gone ∙ ap (λ z. body_of (only z)) (sym is)
+    body-kind span l ds n w (inl d) h = by (p.bodies s k l cs ds i span lists outer at d)
+      where
+        lists : List (List Node)
+        lists = children W (r.seat seat l ds) 0 ds
+
+        by : (r.here seat span l ds lists ≡ node_of span l ds ∷ []) ⊎ ((is_variables l ≡ true) × (r.here seat span l ds lists ≡ over_ones span l lists)) → SameAt body_of seat (node_of span l ds)
+        by (inl left) = body-one span l ds ds refl h (becomes-other (λ n. true) seat span l ds n ∙ left)
+        by (inr (v, over)) = body-one span l ds (map only lists) (variables-item l ds (map only lists) v) h (becomes-other (λ n. true) seat span l ds n ∙ over)
     body-kind span l ds n w (inr (settled, stays)) h =
-        let x = node_of span l ds in
         let ys = map only (children W (r.seat seat l ds) 0 ds) in
-        let y = node_of span l ys in
-        let is : becomes W seat x ≡ y ∷ [] = quiet-over (λ n. true) seat span l ds h settled n w in
-        ap (λ b. only (becomes W seat (cond b x (node_of (out-Node x).span kind.EmptyStmt [])))) (item-roll span l ds ∙ stays ds)
-        ∙ ap only is
-        ∙ sym (ap (λ z. body_of (only z)) is ∙ ap (λ b. cond b y (node_of (out-Node y).span kind.EmptyStmt [])) (item-roll span l ys ∙ stays ys))
+        body-one span l ds ys (stays ds ∙ sym (stays ys)) h (quiet-over (λ n. true) seat span l ds h settled n w)
 
     body-same : (n : Node) → (is_absent (out-Node n).kind || is_stmt (out-Node n).kind) ≡ true → (b : Bool) → raw seat ≡ b → SameAt body_of seat (stripped n)
     body-same n g true h = raw-same body_of seat (stripped n) h

@@ -1,5 +1,5 @@
 -- `import a = b.c` is a constant before types are stripped or after.
-use Rattle.std.proofs.Common.{◌≡◌, ◌∙◌, ℕ, Bool, true, false, ◌&&◌, not, cond, refl, sym, ap, ap₂, subst, List, [], ◌∷◌, map, length, Some, slice_get}
+use Rattle.std.proofs.Common.{◌≡◌, ◌∙◌, inl, ℕ, Bool, true, false, ◌&&◌, not, cond, refl, sym, ap, ap₂, subst, List, [], ◌∷◌, map, length, Some, slice_get}
 use Rattle.std.specs.List.{list_all}
 use Rattle.ecma_kind.specs.Sorts.{belongs, is_decl, is_type_wrapper}
 use Rattle.ecma_kind.specs.declared.kind.Kind.{Kind}
@@ -295,7 +295,7 @@ sees-no-types = record {
   next = λ s t n h. refl;
   next_empty = λ s span cs. refl;
   bodies = λ s k l cs ds i span lists w b d.
-      ap (λ z. importing.here z span l ds lists) (body-seat s k i b) ∙ ap (λ x. cond x (node_of span l ds ∷ []) (done Body l span ds lists)) d;
+      inl (ap (λ z. importing.here z span l ds lists) (body-seat s k i b) ∙ ap (λ x. cond x (node_of span l ds ∷ []) (done Body l span ds lists)) d);
   receiver = λ s cs w. refl;
   unkept = λ s t n h g. filter-none stays n g;
   remains = λ s t n h g. what_stays_stays Seat importing is_raw leaves acts does one-for-one n t h g s;

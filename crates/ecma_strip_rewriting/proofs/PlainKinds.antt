@@ -17,7 +17,7 @@ use Rattle.ecma_strip.specs.Staying.{is_declared, is_empty_stmt}
 use Rattle.ecma_strip.specs.Stripping.{plain, plain_children, plain_kind, staying_nodes, stripped}
 use Rattle.ecma_strip.proofs.Stripping.{stripped-roll}
 use Rattle.ecma_tree.specs.Values.{value_by}
-use Rattle.ecma_strip_rewriting.specs.Commuting.{changes_children, is_full, is_settled, is_type}
+use Rattle.ecma_strip_rewriting.specs.Commuting.{changes_children, is_full, is_settled, is_type, is_variables}
 use Rattle.ecma_strip_rewriting.proofs.Stays.{item_by, kind-roll}
 
 pub no : {X : Type 0} → false ≡ true → X
@@ -147,6 +147,12 @@ statement-plain span (kind.TsModuleDecl d g) cs b = (refl, refl, refl, inl refl)
 statement-plain span (kind.TsInterfaceDecl d) cs b = (refl, refl, refl, inl refl)
 statement-plain span (kind.TsTypeAliasDecl d) cs b = (refl, refl, refl, inl refl)
 statement-plain span _ cs b = no b
+
+-- variables stay by their own word, whatever their names are
+pub variables-item : (k : Kind) (cs ds : List Node) → is_variables k ≡ true → item_by k cs ≡ item_by k ds
+unfolding value_by is_declared
+variables-item (kind.VarDecl word declare) cs ds h = refl
+variables-item _ cs ds h = no h
 
 -- ---- empty statements
 

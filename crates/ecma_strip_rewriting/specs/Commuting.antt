@@ -1,5 +1,5 @@
 -- What a rewriting owes so that it may be done before types are stripped or after.
-use Rattle.std.specs.Prelude.{◌≡◌, ℕ, Bool, true, false, ◌&&◌, ◌||◌, ◌==◌, not, cond, List, [], ◌∷◌, map, filter, Some, slice_get}
+use Rattle.std.specs.Prelude.{◌≡◌, ◌⊎◌, ℕ, Bool, true, false, ◌&&◌, ◌||◌, ◌==◌, not, cond, List, [], ◌∷◌, map, filter, Some, slice_get}
 use Rattle.std.specs.List.{list_all}
 use Rattle.ecma_kind.specs.Sorts.{is_decl, is_stmt, is_type_wrapper}
 use Rattle.ecma_kind.specs.declared.kind.Kind.{Kind}
@@ -42,6 +42,11 @@ is_type _ = false
 -- what is missing, types, and statements that are no declarations
 abbrev pub is_settled : Kind → Bool
 is_settled k = is_absent k || (is_type k || (is_stmt k && not (is_decl k)))
+
+-- whether it declares variables, with `var`, `let` or `const`
+abbrev pub is_variables : Kind → Bool
+is_variables (kind.VarDecl word declare) = true
+is_variables _ = false
 
 -- whether the child at an index is the body of a statement
 abbrev pub is_body_at : Kind → ℕ → Bool
@@ -103,10 +108,12 @@ pub record SeesNoTypes {S : Type 0} (r : Rewriting S) (raw : S → Bool) (leaves
   pub under : (s : S) (k : Kind) (cs : List Node) → raw s ≡ false → is_type_wrapper k ≡ true → r.seat s k cs 0 ≡ s
   pub next : (s : S) (t : Shape) (n : Node) → HasShape t n → r.next s (stripped n) ≡ r.next s n
   pub next_empty : (s : S) (span : Span) (cs : List Node) → r.next s (node_of span kind.EmptyStmt cs) ≡ s
-  -- a declaration as the body of a statement, and the `this` of a setter, stay as they are
+  -- a declaration as the body of a statement, and the `this` of a setter, stay as they are; variables there may also be one over the ones
+  -- that their children become
   pub bodies : (s : S) (k l : Kind) (cs ds : List Node) (i : ℕ) (span : Span) (lists : List (List Node)) → raw s ≡ false →
       is_body_at k i ≡ true → is_decl l ≡ true →
-      r.here (r.seat s k cs i) span l ds lists ≡ node_of span l ds ∷ []
+      (r.here (r.seat s k cs i) span l ds lists ≡ node_of span l ds ∷ [])
+      ⊎ ((is_variables l ≡ true) × (r.here (r.seat s k cs i) span l ds lists ≡ over_ones span l lists))
   pub receiver : (s : S) (cs : List Node) → raw s ≡ false → raw (r.seat s kind.SetterProp cs 1) ≡ true
   -- of an item that goes nothing stays, and of one that stays all does
   pub unkept : (s : S) (t : Shape) (n : Node) → HasShape t n → stays n ≡ false → filter stays (r.unkept s n) ≡ []

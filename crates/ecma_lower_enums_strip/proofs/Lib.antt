@@ -1,0 +1,13 @@
+pub mod Made
+pub mod Quiet
+pub mod Naming
+pub mod Seating
+pub mod Reading
+pub mod Answering
+pub mod Ones
+pub mod Acting
+pub mod Valued
+pub mod Remaining
+pub mod Embedding
+pub mod Named
+pub mod Law

@@ -1,0 +1,5 @@
+use Rattle.ecma_lower_enums_strip.proofs.Law.{enums_before_or_after}
+use Rattle.ecma_lower_enums_strip.proofs.laws.enums_before_or_after.Goals as goal
+
+pub returns : goal.returns
+returns c = enums_before_or_after
