@@ -18,12 +18,13 @@ pub fn wrappers_do_not_matter()
     ensures { WrappersDoNotMatter }
 {}
 
-/// A tree runs as it does without parentheses that end no optional chain.
+/// A tree without enums runs as it does without parentheses that end no optional chain.
 pub fn parentheses_do_not_matter()
     ensures { ParenthesesDoNotMatter }
 {}
 
-/// A tree runs as it does with other names, where free ones and those that are keys keep their texts.
+/// A tree without enums runs as it does with other names, where free ones and those that are keys
+/// keep their texts.
 pub fn names_do_not_matter()
     ensures { NamesDoNotMatter }
 {}
@@ -49,7 +50,7 @@ pub fn events_only_grow()
     ensures { EventsOnlyGrow }
 {}
 
-/// A module without members and calls has no events, as long as the host does nothing with it.
+/// A module without members, calls and enums has no events, as long as the host does nothing with it.
 pub fn declarations_alone_have_no_events()
     ensures { DeclarationsAloneHaveNoEvents }
 {}
