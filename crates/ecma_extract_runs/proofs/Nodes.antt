@@ -226,12 +226,12 @@ module _ (ctx : ExprCtx) (n : Node) where
       (constant_claim _ _ _ _ (meaning name.0) (set_export n (meaning name.0) (meaning source.0))) (exported_claim _ _ _ _ (constant_meaning n (meaning name.0) (meaning source.0) ∷ []))
   step_claim (kind.TsEnumDecl false is_const) (name ∷ members ∷ []) mean shape only same =
       enum_claim (fits_by (kind.TsEnumDecl false is_const) (nodes ctx (name ∷ members ∷ [])) (map fits (nodes ctx (name ∷ members ∷ []))))
-          (item_by (kind.TsEnumDecl false is_const) (nodes ctx (name ∷ members ∷ [])) (single_by (kind.TsEnumDecl false is_const) (meanings ctx (name ∷ members ∷ []))))
+      (item_by (kind.TsEnumDecl false is_const) (nodes ctx (name ∷ members ∷ [])) (single_by (kind.TsEnumDecl false is_const) (meanings ctx (name ∷ members ∷ []))))
       (is_name_by (kind.TsEnumDecl false is_const) (map is_name (nodes ctx (name ∷ members ∷ [])))) is_const (left_of ctx (way_by ctx (kind.TsEnumDecl false is_const) n) n (keeps ctx (name ∷ members ∷ []))) (meaning name.0)
-          (meaning members.0)
+      (meaning members.0)
   step_claim kind.TsEnumMember (name ∷ init ∷ []) mean shape only same =
       member_claim (fits_by kind.TsEnumMember (nodes ctx (name ∷ init ∷ [])) (map fits (nodes ctx (name ∷ init ∷ []))))
-          (item_by kind.TsEnumMember (nodes ctx (name ∷ init ∷ [])) (single_by kind.TsEnumMember (meanings ctx (name ∷ init ∷ []))))
+      (item_by kind.TsEnumMember (nodes ctx (name ∷ init ∷ [])) (single_by kind.TsEnumMember (meanings ctx (name ∷ init ∷ []))))
       (is_name_by kind.TsEnumMember (map is_name (nodes ctx (name ∷ init ∷ [])))) (left_of ctx (way_by ctx kind.TsEnumMember n) n (keeps ctx (name ∷ init ∷ []))) (meaning name.0) (meaning init.0)
   step_claim k ps mean shape only same = by_effect k ps (has_no_effect k (meanings ctx ps)) refl mean shape only same
 

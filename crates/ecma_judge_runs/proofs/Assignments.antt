@@ -55,7 +55,7 @@ module _ (ctx : ExprCtx) (own : Purity) (n : Node) (x : ExecutionContext) (j l :
   assign_gives operation.AddAssign =
       then_gives (target.written (lone x)) (λ r. then_gives (read (lone x) r) (λ v. bind_gives hr (λ w q.
       bind_gives (weaker_gives {Q = FitsAssigned operation.AddAssign} (λ u t. record { truth = tt; number = tt; text = tt; type = t }) (typed_sum v w Unknown l.type tt q.type))
-          (λ u p. then_gives (write (lone x) r u) (λ _. give_gives u p)))))
+      (λ u p. then_gives (write (lone x) r u) (λ _. give_gives u p)))))
   assign_gives operation.SubAssign = by_numbers operation.SubAssign difference_of (λ m. record { truth = tt; number = tt; text = tt; type = refl })
   assign_gives operation.MulAssign = by_numbers operation.MulAssign product_of (λ m. record { truth = tt; number = tt; text = tt; type = refl })
   assign_gives operation.DivAssign = by_numbers operation.DivAssign quotient_of (λ m. record { truth = tt; number = tt; text = tt; type = refl })

@@ -202,7 +202,7 @@ module _ (ctx : ExprCtx) where
         → pure_callee_by ctx k n ≡ true → Leaves old (called (meaning_by n k (map meaning cs)) values (lone x))
     call_on values n k cs shape other clear is =
         pure_then old (lone x) (λ v. Unit {0}) (λ r. callee_by (lone x) r >>= λ c. call (lone x) c values) (outside_leaves old)
-            (text_call (λ v. Unit {0}) old (lone x) (λ c. call (lone x) c values) (λ m text. throw_leaves old (Error error.Kind))) n k cs shape other clear is
+        (text_call (λ v. Unit {0}) old (lone x) (λ c. call (lone x) c values) (λ m text. throw_leaves old (Error error.Kind))) n k cs shape other clear is
 
     -- ---- on arguments that leave all as it was
 

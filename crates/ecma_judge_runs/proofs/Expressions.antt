@@ -170,7 +170,7 @@ module _ (ctx : ExprCtx) (sure : Assumed) (off : ctx.is_unresolved_ref_safe ≡ 
 
     call_value_leaves : (callee arguments : Claimed ctx sure (lone x)) → ((judged ctx callee.0).pure_callee ≡ true) × ((judged ctx arguments.0).effects ≡ false)
         → (taken ctx x.known.declared sure callee.0).called && is_taken ctx x.known.declared sure arguments.0 ≡ true →
-            Leaves old (call_by (meaning callee.0).is_super (meaning callee.0) (meaning arguments.0) (within ctx sure (lone x) scope))
+        Leaves old (call_by (meaning callee.0).is_super (meaning callee.0) (meaning arguments.0) (within ctx sure (lone x) scope))
     call_value_leaves callee arguments none whole =
         either_called callee arguments none (both_true (taken ctx x.known.declared sure callee.0).called (is_taken ctx x.known.declared sure arguments.0) whole) (is_function_expression (out-Node callee.0).kind) refl
 

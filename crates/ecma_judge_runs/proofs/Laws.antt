@@ -58,17 +58,17 @@ what_is_known_is_so ctx objects e x s t v bare known apart told done =
 pub what_is_pure_is_still : WhatIsPureIsStill
 what_is_pure_is_still ctx sure e x s bare off apart so whole pure =
     from_lone x bare (λ z. Still s (state_behind ((meaning e).value z s))) (still_behind ((meaning e).value (lone x)) s
-        (((steady ctx (IsTaken ctx sure (lone x)) x (taken_asks ctx sure off x apart so.globals (calls_alone sure x bare so.calls)) e).truth whole pure).leaves s))
+    (((steady ctx (IsTaken ctx sure (lone x)) x (taken_asks ctx sure off x apart so.globals (calls_alone sure x bare so.calls)) e).truth whole pure).leaves s))
 
 pub what_is_a_pure_number_is_still : WhatIsAPureNumberIsStill
 what_is_a_pure_number_is_still ctx sure e x s bare off apart so whole pure =
     from_lone x bare (λ z. Still s (state_behind ((meaning e).value z s))) (still_behind ((meaning e).value (lone x)) s
-        (((steady ctx (IsTaken ctx sure (lone x)) x (taken_asks ctx sure off x apart so.globals (calls_alone sure x bare so.calls)) e).number whole pure).leaves s))
+    (((steady ctx (IsTaken ctx sure (lone x)) x (taken_asks ctx sure off x apart so.globals (calls_alone sure x bare so.calls)) e).number whole pure).leaves s))
 
 pub what_has_a_known_text_is_still : WhatHasAKnownTextIsStill
 what_has_a_known_text_is_still ctx sure e x text s bare off apart so whole known =
     from_lone x bare (λ z. Still s (state_behind ((meaning e).value z s))) (still_behind ((meaning e).value (lone x)) s
-        ((steady ctx (IsTaken ctx sure (lone x)) x (taken_asks ctx sure off x apart so.globals (calls_alone sure x bare so.calls)) e).text whole text known s).0)
+    ((steady ctx (IsTaken ctx sure (lone x)) x (taken_asks ctx sure off x apart so.globals (calls_alone sure x bare so.calls)) e).text whole text known s).0)
 
 -- ---- pure callees
 

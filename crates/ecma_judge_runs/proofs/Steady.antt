@@ -470,7 +470,7 @@ module _ (ctx : ExprCtx) (Asked : Node → Type 0) (x : ExecutionContext) (asks 
       number = λ whole pure. told_here (NumberHere ctx Asked (lone x) here parts.kind ns) (HasNumber (judged ctx here).number.1)
           (λ v h. subst (λ (t : Purity × KnownOr JsNumber). HasNumber t.1 v) (sym same_number) h)
           (layer_number ctx Asked (lone x) here parts.kind ns (ap (λ (z : Node-F Node). z.children) (out-roll-Node parts) ∙ sym is) (asked_below whole) (calm_here whole)
-              (sym (ap (λ (t : Purity × KnownOr JsNumber). t.0) same_number) ∙ pure));
+          (sym (ap (λ (t : Purity × KnownOr JsNumber). t.0) same_number) ∙ pure));
       text = λ whole t known old.
           let h = layer_text ctx Asked (lone x) here parts.kind ns (asked_below whole) (calm_here whole) t (sym same_text ∙ known) old in
           (subst (λ m. Leaves old (m.value (lone x))) (sym same_meaning) h.0, subst (λ m. Leaves old (m.elements (lone x))) (sym same_meaning) h.1);

@@ -122,7 +122,7 @@ module _ (ctx : ExprCtx) (objects : Bool) (x : ExecutionContext) (known : object
   layer_assigned n k ns is get =
       either_assigned (has_no_effect k (meanings ctx objects (lone x) ns)) (no_effect n) (role_by n k (meanings ctx objects (lone x) ns)) (CameFrom get) get
       (assigned_passes (lone x) n (kind.TsTypeAliasDecl false) [] [] refl (CameFrom get) get (came_from get))
-          (assigned_passes (lone x) n k (meanings ctx objects (lone x) ns) (all_marks ctx objects (lone x) ns) is (CameFrom get) get (came_from get))
+      (assigned_passes (lone x) n k (meanings ctx objects (lone x) ns) (all_marks ctx objects (lone x) ns) is (CameFrom get) get (came_from get))
 
   -- a node from its children
 

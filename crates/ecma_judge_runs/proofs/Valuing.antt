@@ -99,7 +99,7 @@ module _ (ctx : ExprCtx) (objects : Bool) (x : ExecutionContext) (known : object
       })))
   value_gives n kind.ObjectLit (properties ∷ []) shape is =
       then_gives (new_object (record { entries = []; prototype = None; callable = None; extent = Ordinary }))
-          (λ o. then_gives ((meaning properties.0).defined o o (lone x)) (λ _. give_gives (Own o) (record { truth = refl; number = tt; text = tt; type = refl })))
+      (λ o. then_gives ((meaning properties.0).defined o o (lone x)) (λ _. give_gives (Own o) (record { truth = refl; number = tt; text = tt; type = refl })))
   value_gives n kind.FnExpr (name ∷ function ∷ []) shape is =
       then_gives (new_environment (map (empty true) (meaning name.0).names) None) (λ place. then_gives ((meaning function.0).made Plain None (inside (lone x) place)) (λ f.
       then_gives (set_all (meaning name.0).names place.place (Own f)) (λ _. give_gives (Own f) (record { truth = refl; number = tt; text = tt; type = refl }))))

@@ -53,7 +53,7 @@ PureCallsAreStill =
 abbrev pub WhatIsKnownIsSo : Type 0
 WhatIsKnownIsSo =
     (ctx : ExprCtx) (objects : Bool) (e : Node) (x : ExecutionContext) (s t : State) (v : Value) → KnowsNoEnums x → (objects ≡ true → ConstructsObjects x) → IsTrue (declares_no_global ctx x.scope) →
-        IsTrue (is_valued objects e) → (meaning e).value x s ≡ Done v t →
+    IsTrue (is_valued objects e) → (meaning e).value x s ≡ Done v t →
     IsAsJudged (judged ctx e) v
 
 -- what tells whether an expression counts as true leaves all as it was, where it is said to be pure, known or not, and however it comes out

@@ -387,7 +387,7 @@ module _ (node : Node) where
   variable_alike ids =
       let h = absent_alike node in
       others_alike (role_by node kind.Absent []) h (λ w c. here_bind (variable_kept ids c) (λ _ _ r. read_alike c r)) (λ w c. keeps_alike (variable_kept ids c)) (λ w c get get' gets. write_alike' ids c gets)
-          (λ w c. h.completion c) (λ w c. h.member c)
+      (λ w c. h.completion c) (λ w c. h.member c)
 
   -- an expression with a value
   valued_alike : (value : Evaluation Value) → ((w : World) (c : Contexts w) → Alike w Like (value (first c)) (value (second c))) → MeansAlike (value_meaning node value)
@@ -429,7 +429,7 @@ module _ (node : Node) where
   member_alike name init =
       let h = role_alike node kind.TsEnumMember (name ∷ init ∷ []) in
       others_alike (role_by node kind.TsEnumMember (name.0 ∷ init.0 ∷ [])) h (λ w c. h.value c) (λ w c. h.reference c) (λ w c get get' gets. h.assigned c gets) (λ w c. h.completion c)
-          (λ w c leaves_out ids. member_by_alike init name.0.text c leaves_out ids)
+      (λ w c leaves_out ids. member_by_alike init name.0.text c leaves_out ids)
 
   written_members_alike : (is_const : Bool) (ids : List Id) (members : Part) → MeansAlike (members_meaning node is_const ids members.0)
   written_members_alike is_const ids members =
@@ -465,7 +465,7 @@ module _ (node : Node) where
   enum_alike is_const name members =
       let h = role_alike node (kind.TsEnumDecl false is_const) (name ∷ members ∷ []) in
       others_alike (role_by node (kind.TsEnumDecl false is_const) (name.0 ∷ members.0 ∷ [])) h (λ w c. h.value c) (λ w c. h.reference c) (λ w c get get' gets. h.assigned c gets)
-          (λ w c. part_alike is_const name name.0.names members.0.member_texts members c) (λ w c. h.member c)
+      (λ w c. part_alike is_const name name.0.names members.0.member_texts members c) (λ w c. h.member c)
 
 kind_alike : (node : Node) (k : Kind) (ps : List Part) → MeansAlike (cond (has_no_effect k (meanings ps)) (no_effect node) (role_by node k (meanings ps)))
 kind_alike node k ps = either_alike (has_no_effect k (meanings ps)) (role_alike node (kind.TsTypeAliasDecl false) []) (role_alike node k ps)
