@@ -63,7 +63,7 @@ all_grounded-take n place zero xs h = tt
 all_grounded-take n place (suc k) [] h = tt
 all_grounded-take n place (suc k) (x ∷ xs) h = (h.0, all_grounded-take n place k xs h.1)
 
-all_grounded-drop : (n place k : ℕ) (xs : List Slot) → AllGrounded n place xs → AllGrounded n place (drop k xs)
+pub all_grounded-drop : (n place k : ℕ) (xs : List Slot) → AllGrounded n place xs → AllGrounded n place (drop k xs)
 all_grounded-drop n place zero xs h = h
 all_grounded-drop n place (suc k) [] h = tt
 all_grounded-drop n place (suc k) (x ∷ xs) h = all_grounded-drop n place k xs h.1
@@ -112,7 +112,7 @@ module _ (kinds : List Kind) (trees : List Node) where
   all_summed-take (suc k) [] h = tt
   all_summed-take (suc k) (x ∷ xs) h = (h.0, all_summed-take k xs h.1)
 
-  all_summed-drop : (k : ℕ) (xs : List Slot) → AllSummed kinds trees xs → AllSummed kinds trees (drop k xs)
+  pub all_summed-drop : (k : ℕ) (xs : List Slot) → AllSummed kinds trees xs → AllSummed kinds trees (drop k xs)
   all_summed-drop zero xs h = h
   all_summed-drop (suc k) [] h = tt
   all_summed-drop (suc k) (x ∷ xs) h = all_summed-drop k xs h.1

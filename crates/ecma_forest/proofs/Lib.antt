@@ -11,3 +11,4 @@ pub mod Places
 pub mod Changed
 pub mod Scans
 pub mod PassingOver
+pub mod Opening

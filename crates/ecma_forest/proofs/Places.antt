@@ -1,7 +1,7 @@
 -- What the slot at a place says of the tree there.
 use Rattle.std.proofs.Common.{◌≡◌, ◌<◌, ◌+◌, refl, sym, ap, ◌∙◌, ℕ, List, [], ◌∷◌, ◌++◌, length, Some, slice_get, get_or, arith, subst, append_assoc, take}
 use Rattle.std.proofs.lemmas.List.{append-nil, map-append, take-map, get_or_append_left}
-use Rattle.std.proofs.lemmas.Option.{slice_get-get_or, slice_get_read}
+use Rattle.std.proofs.lemmas.Option.{get_or_from_slice_get, slice_get-get_or, slice_get_read}
 use Rattle.ecma_kind.specs.declared.kind.Kind.{Kind}
 use Rattle.ecma_kind.specs.declared.kind.Kind.TheVariants.{Absent}
 use Rattle.ecma_tree.specs.Nodes.{absent}
@@ -11,7 +11,7 @@ use Rattle.ecma_forest.specs.Trees.{Trees, node}
 use Rattle.ecma_forest.specs.Summaries.{tree_summary}
 use Rattle.ecma_forest.specs.declared.forest.Slot.{Slot}
 use Rattle.ecma_forest.proofs.Growing.{all_grounded-append, all_grounded-take, all_summed-append, all_summed-take, length-grown, all_summed-at}
-use Rattle.ecma_forest.proofs.Reading.{child-at, child-within, grown-at, kind-tree, length-children, out-tree_of, same-within}
+use Rattle.ecma_forest.proofs.Reading.{child-at, child-within, grown-at, kind-tree, length-children, out-tree_of}
 
 abbrev pub seen : List Kind → List Slot → List Slot → Trees
 seen kinds below roots = record { below = grown kinds below; roots = trees_over kinds below roots }
@@ -56,8 +56,8 @@ module _ (kinds : List Kind) (below roots : List Slot) (now : Trees) (is : seen 
     pub kind-at_is : kind_at kinds s.kind ≡ (out-Node (node now at)).kind
     kind-at_is = sym (ap (λ n. (out-Node n).kind) node-is ∙ kind-tree kinds below s)
 
-    pub kind-is : (k : Kind) → k ≡ get_or kinds s.kind k → k ≡ (out-Node (node now at)).kind
-    kind-is k e = e ∙ same-within kinds s.kind k Absent low.known ∙ kind-at_is
+    pub kind-is : (k : Kind) → slice_get kinds s.kind ≡ Some k → k ≡ (out-Node (node now at)).kind
+    kind-is k e = sym (get_or_from_slice_get kinds s.kind k Absent e) ∙ kind-at_is
 
     pub count-is : s.count ≡ length (out-Node (node now at)).children
     count-is = length-children kinds below s (length kinds) is-at.grounded ∙ ap (λ n. length (out-Node n).children) (sym node-is)

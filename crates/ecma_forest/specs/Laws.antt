@@ -1,4 +1,4 @@
--- What a summary tells: what a search of the whole tree finds, and where there is nothing to find, to change or to rewrite.
+-- What a summary tells: what a search of the whole tree finds, and where there is nothing to find, to change or to rewrite. And roots that are taken apart again.
 use Rattle.std.specs.Prelude.{◌≡◌, ℕ, Bool, false, List, [], ◌∷◌}
 use Rattle.ecma_kind.specs.declared.span.Span.{Span}
 use Rattle.ecma_kind.specs.declared.kind.Kind.{Kind}
@@ -8,6 +8,7 @@ use Rattle.ecma_tree.specs.declared.node.Node.{Node}
 use Rattle.ecma_forest.specs.Changes.{same_span}
 use Rattle.ecma_forest.specs.Summaries.{AsksByParts, kind_summary, tree_summary}
 use Rattle.ecma_forest.specs.Rewriting.{ChangesAskedAlone, rewritten}
+use Rattle.ecma_forest.specs.Trees.{opened, wrapped}
 use Rattle.ecma_forest.specs.declared.summary.Summary.{Summary}
 
 -- a tree's summary says yes exactly where that of a kind in it does
@@ -30,3 +31,7 @@ ChangesPassOver = (asks : Summary → Bool) → AsksByParts asks → (kind_to : 
 abbrev pub RewritingsPassOver : Type 0
 RewritingsPassOver = (asks : Summary → Bool) → AsksByParts asks → (rule : Span → Kind → List Node → List Node) → ChangesAskedAlone asks rule
     → (tree : Node) → asks (tree_summary tree) ≡ false → rewritten rule tree ≡ tree ∷ []
+
+-- roots that are wrapped, and opened then, are what they were
+abbrev pub OpeningUndoesWrapping : Type 0
+OpeningUndoesWrapping = (span : Span) (kind : Kind) (start : ℕ) (roots : List Node) → opened (wrapped span kind start roots) ≡ roots

@@ -1,3 +1,5 @@
+pub mod Sets
+pub mod Bytes
 pub mod Summaries
 pub mod Slots
 pub mod Trees

@@ -43,5 +43,5 @@ is_this kind.ThisExpr = true
 is_this k = false
 
 -- whether the leftmost leaf is `this`
-abbrev pub begins_with_this : Kind → List Bool → Bool
-begins_with_this k children = is_this k || slice_index_or children 0 false
+abbrev pub begins_with_this : Span → Kind → List Bool → Bool
+begins_with_this span k children = is_this k || slice_index_or children 0 false

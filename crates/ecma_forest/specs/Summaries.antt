@@ -2,7 +2,10 @@
 use Rattle.std.specs.Prelude.{◌≡◌, ◌||◌, Bool, true, false, List, [], ◌∷◌}
 use Rattle.ecma_kind.specs.declared.kind.Kind.{Kind}
 use Rattle.ecma_kind.specs.declared.kind.Kind.TheVariants as kind
+use Rattle.ecma_kind.specs.declared.operators.AssignOp.{AssignOp}
+use Rattle.ecma_kind.specs.declared.operators.AssignOp.TheVariants.{Assign}
 use Rattle.ecma_tree.specs.declared.node.Node.{Node, Node-F, fold-Node}
+use Rattle.ecma_forest.specs.Sets.{sets_of}
 use Rattle.ecma_forest.specs.declared.summary.Summary.{Summary}
 
 abbrev pub is_type : Kind → Bool
@@ -26,15 +29,78 @@ abbrev pub is_param_prop : Kind → Bool
 is_param_prop (kind.TsParamProp accessibility is_override readonly) = true
 is_param_prop k = false
 
+abbrev pub is_plain : AssignOp → Bool
+is_plain Assign = true
+is_plain op = false
+
+-- what may have a pattern that was read as a literal
+--   [a] = b; for ([c] of d);   // each of them
+--   a += b; e++;   // none
+abbrev pub may_have_patterns : Kind → Bool
+may_have_patterns (kind.AssignExpr op) = is_plain op
+may_have_patterns kind.ForInStmt = true
+may_have_patterns (kind.ForOfStmt is_await) = true
+may_have_patterns k = false
+
+-- what has parameters and a body of its own
+abbrev pub is_function : Kind → Bool
+is_function (kind.Function is_generator is_async) = true
+is_function (kind.ArrowExpr is_async is_generator) = true
+is_function (kind.Constructor accessibility is_optional) = true
+is_function kind.GetterProp = true
+is_function kind.SetterProp = true
+is_function k = false
+
+-- what may open a scope
+abbrev pub may_open_scope : Kind → Bool
+may_open_scope (kind.Module shebang) = true
+may_open_scope (kind.Script shebang) = true
+may_open_scope kind.TsModuleBlock = true
+may_open_scope (kind.TsNamespaceDecl declare global) = true
+may_open_scope (kind.TsEnumDecl declare is_const) = true
+may_open_scope kind.FnExpr = true
+may_open_scope kind.ClassExpr = true
+may_open_scope (kind.ClassDecl declare) = true
+may_open_scope kind.BlockStmt = true
+may_open_scope kind.SwitchStmt = true
+may_open_scope kind.ForStmt = true
+may_open_scope kind.ForInStmt = true
+may_open_scope (kind.ForOfStmt is_await) = true
+may_open_scope kind.CatchClause = true
+may_open_scope k = is_function k
+
+-- an identifier that names a variable
+abbrev pub is_name : Kind → Bool
+is_name (kind.Ident sym ctxt optional) = true
+is_name k = false
+
 -- the summary of a node without what stands below it
 abbrev pub kind_summary : Kind → Summary
-kind_summary k = record { types = is_type k; enums = is_enum k; namespaces = is_namespace k; param_props = is_param_prop k }
+kind_summary k = record {
+  types = is_type k;
+  enums = is_enum k;
+  namespaces = is_namespace k;
+  param_props = is_param_prop k;
+  patterns = may_have_patterns k;
+  scopes = may_open_scope k;
+  functions = is_function k;
+  names = is_name k;
+}
 
 abbrev pub empty_summary : Summary
-empty_summary = record { types = false; enums = false; namespaces = false; param_props = false }
+empty_summary = sets_of 0
 
 abbrev pub join_summaries : Summary → Summary → Summary
-join_summaries a b = record { types = a.types || b.types; enums = a.enums || b.enums; namespaces = a.namespaces || b.namespaces; param_props = a.param_props || b.param_props }
+join_summaries a b = record {
+  types = a.types || b.types;
+  enums = a.enums || b.enums;
+  namespaces = a.namespaces || b.namespaces;
+  param_props = a.param_props || b.param_props;
+  patterns = a.patterns || b.patterns;
+  scopes = a.scopes || b.scopes;
+  functions = a.functions || b.functions;
+  names = a.names || b.names;
+}
 
 abbrev pub joined_summaries : List Summary → Summary
 joined_summaries [] = empty_summary

@@ -18,20 +18,12 @@ pub trait Change {
     ghost keeps: { (rules : Self) → KeepsSummaries (kind_to rules) };
 }
 
-fn change_kinds<C: Change>(change: &C, kinds: &mut Vec<Kind>)
-    ensures { kinds.new.items ≡ map (C.kind_to change.now) kinds.old.items }
-{
-    for i in 0..kinds.len() {
-        change.change(&mut kinds[i]);
-    }
-}
-
 impl Forest {
     /// Changes the nodes of all trees where they stand: each kind once, however many nodes are of it.
     pub fn change<C: Change>(&mut self, change: &C)
         ensures below { self.new.below ≡ map (changed same_span (C.kind_to change.now)) self.old.below }
         ensures roots { self.new.roots ≡ map (changed same_span (C.kind_to change.now)) self.old.roots }
     {
-        change_kinds(change, &mut self.kinds);
+        self.kinds.change(change);
     }
 }

@@ -1,5 +1,5 @@
 //! From the tree of nodes to the forest, and back.
-ghost use Rattle.std.specs.Prelude.{◌≡◌, ◌<◌, ◌++◌, ◌∷◌, [], IfOk, OnOk, length};
+ghost use Rattle.std.specs.Prelude.{◌≡◌, ◌<◌, ◌++◌, ◌∷◌, [], IfOk, OnErr, OnOk, length};
 ghost use Rattle.ecma_tree.specs.declared.node.Node.{Node};
 ghost use Rattle.ecma_forest.specs.Slots.{Extends};
 ghost use Rattle.ecma_forest.specs.Trees.{node};
@@ -23,15 +23,23 @@ pub fn to_node(alloc: Global, forest: &Forest, at: u32) -> Result<Node, NoMemory
     Ok(Node::new(forest.span(at), copy_kind(forest.kind(at))?, children))
 }
 
-/// Puts the tree of a node behind the roots.
+/// Puts the tree of a node behind the roots. Without memory the roots are what they were.
+#[tactic(auto, using(crate::proofs::Walking::walking))]
 pub fn push_node(forest: &mut Forest, tree: &Node) -> Result<(), NoMemory>
     ensures more { Extends forest.old.below forest.new.below }
     ensures ok { OnOk result (forest.new.roots ≡ forest.old.roots ++ tree.now ∷ []) }
+    ensures err { OnErr result (forest.new.roots ≡ forest.old.roots) }
 {
     let start = forest.len();
     for child in tree.children.as_slice() {
-        push_node(forest, child)?;
+        if let Err(error) = push_node(forest, child) {
+            forest.cut(start);
+            return Err(error);
+        }
     }
-    forest.wrap(tree.span, copy_kind(&tree.kind)?, start)?;
+    if let Err(error) = forest.wrap_like(tree.span, &tree.kind, start) {
+        forest.cut(start);
+        return Err(error);
+    }
     Ok(())
 }

@@ -1,12 +1,12 @@
 //! A forest, and how trees grow in it.
-ghost use Rattle.std.specs.Prelude.{◌<◌, IfOk, Some, slice_get, ◌≡◌, ◌≤◌, OnOk, OnErr, ◌++◌, ◌∷◌, [], length, take, drop};
+ghost use Rattle.std.specs.Prelude.{◌<◌, ◌+◌, IfOk, Some, slice_get, ◌≡◌, ◌≤◌, OnOk, OnErr, ◌++◌, ◌∷◌, [], length, take, drop};
 ghost use Rattle.ecma_tree.specs.Nodes.{node_of};
 ghost use Rattle.ecma_tree.specs.declared.node.Node.{out-Node};
 ghost use Rattle.ecma_forest.specs.Summaries.{tree_summary};
-ghost use Rattle.ecma_forest.specs.Trees.{node};
+ghost use Rattle.ecma_forest.specs.Trees.{node, opened, root, wrapped};
 ghost use Rattle.ecma_forest.specs.Slots.{slots_summary, slot_over};
 
-use crate::kinds::number_of;
+use crate::kinds::KindTable;
 use crate::summary::{Summary, kind_summary};
 use ecma_tree::{Kind, NoMemory, Span};
 use std::alloc::Global;
@@ -25,7 +25,7 @@ pub struct Slot {
 /// Trees that stand one behind the other: their kinds, their roots, and all that stands below them.
 #[derive(Drop)]
 pub struct Forest {
-    pub(crate) kinds: Vec<Kind>,
+    pub(crate) kinds: KindTable,
     pub(crate) below: Vec<Slot>,
     pub(crate) roots: Vec<Slot>,
 }
@@ -43,9 +43,9 @@ impl Model for Forest {
 
     ghost use Rattle.ecma_forest.specs.Slots.{grown, trees_over, AreRooted};
 
-    ghost view = { λ f. record { below = grown f.kinds.items f.below.items; roots = trees_over f.kinds.items f.below.items f.roots.items } };
+    ghost view = { λ f. record { below = grown f.kinds f.below.items; roots = trees_over f.kinds f.below.items f.roots.items } };
 
-    ghost invariant = { λ f. AreRooted f.kinds.items f.below.items f.roots.items };
+    ghost invariant = { λ f. AreRooted f.kinds f.below.items f.roots.items };
 }
 
 fn joined_summary(slots: &[Slot]) -> Summary
@@ -103,6 +103,17 @@ fn put_over(
     Ok(())
 }
 
+/// Puts slots in the place of the last.
+fn replace_last(slots: &mut Vec<Slot>, last: usize, others: &[Slot]) -> Result<(), NoMemory>
+    requires { length slots.old.items ≡ last + 1 }
+    ensures ok { OnOk result (slots.new.items ≡ take last slots.old.items ++ others.now) }
+    ensures err { OnErr result (slots.new.items ≡ slots.old.items) }
+{
+    slots.extend_from_slice(others)?;
+    slots.remove(last);
+    Ok(())
+}
+
 impl Forest {
     /// A forest without trees. It takes no memory.
     pub fn new(alloc: Global) -> Forest
@@ -110,7 +121,7 @@ impl Forest {
         ensures roots { result.roots ≡ [] }
     {
         Forest {
-            kinds: Vec::new(alloc),
+            kinds: KindTable::new(alloc),
             below: Vec::new(alloc),
             roots: Vec::new(alloc),
         }
@@ -143,7 +154,7 @@ impl Forest {
         requires { at < length self.now.below }
         ensures { result.now ≡ (out-Node (node self.now at)).kind }
     {
-        &self.kinds[self.below[at as usize].kind as usize]
+        self.kinds.at(self.below[at as usize].kind)
     }
 
     /// How many children the tree at a place has.
@@ -214,11 +225,11 @@ impl Forest {
         requires at { at < length self.old.below }
         requires start { start ≤ length self.old.roots }
         ensures below { OnOk result (self.new.below ≡ self.old.below ++ drop start self.old.roots) }
-        ensures roots { OnOk result (self.new.roots ≡ take start self.old.roots ++ node_of (out-Node (node self.old at)).span (out-Node (node self.old at)).kind (drop start self.old.roots) ∷ []) }
+        ensures roots { OnOk result (self.new.roots ≡ wrapped (out-Node (node self.old at)).span (out-Node (node self.old at)).kind start self.old.roots) }
         ensures err { OnErr result (self.new ≡ self.old) }
     {
         let slot = self.below[at as usize];
-        let own = kind_summary(&self.kinds[slot.kind as usize]);
+        let own = kind_summary(self.kinds.at(slot.kind));
         put_over(
             &mut self.below,
             &mut self.roots,
@@ -234,12 +245,57 @@ impl Forest {
     pub fn wrap(&mut self, span: Span, kind: Kind, start: usize) -> Result<(), NoMemory>
         requires { start ≤ length self.old.roots }
         ensures below { OnOk result (self.new.below ≡ self.old.below ++ drop start self.old.roots) }
-        ensures roots { OnOk result (self.new.roots ≡ take start self.old.roots ++ node_of span kind (drop start self.old.roots) ∷ []) }
+        ensures roots { OnOk result (self.new.roots ≡ wrapped span kind start self.old.roots) }
         ensures err { OnErr result (self.new ≡ self.old) }
     {
         let own = kind_summary(&kind);
-        let number = number_of(&mut self.kinds, kind)?;
+        let number = self.kinds.number_of(kind)?;
         put_over(&mut self.below, &mut self.roots, span, number, own, start)?;
+        Ok(())
+    }
+
+    /// The same with a kind that is lent: it is copied where the forest has none such yet.
+    pub fn wrap_like(&mut self, span: Span, kind: &Kind, start: usize) -> Result<(), NoMemory>
+        requires { start ≤ length self.old.roots }
+        ensures below { OnOk result (self.new.below ≡ self.old.below ++ drop start self.old.roots) }
+        ensures roots { OnOk result (self.new.roots ≡ wrapped span kind.now start self.old.roots) }
+        ensures err { OnErr result (self.new ≡ self.old) }
+    {
+        let own = kind_summary(kind);
+        let number = self.kinds.number_like(kind)?;
+        put_over(&mut self.below, &mut self.roots, span, number, own, start)?;
+        Ok(())
+    }
+
+    /// The span of a root.
+    pub fn root_span(&self, i: usize) -> Span
+        requires { i < length self.now.roots }
+        ensures { result ≡ (out-Node (root self.now i)).span }
+    {
+        self.roots[i].span
+    }
+
+    /// The kind of a root.
+    pub fn root_kind(&self, i: usize) -> &Kind
+        requires { i < length self.now.roots }
+        ensures { result.now ≡ (out-Node (root self.now i)).kind }
+    {
+        self.kinds.at(self.roots[i].kind)
+    }
+
+    /// Takes the last root apart: its children are roots in its place, as they were before they were wrapped. They keep their
+    /// places too. Without memory it stays.
+    pub fn open(&mut self) -> Result<(), NoMemory>
+        requires { 0 < length self.old.roots }
+        ensures below { self.new.below ≡ self.old.below }
+        ensures roots { OnOk result (self.new.roots ≡ opened self.old.roots) }
+        ensures err { OnErr result (self.new ≡ self.old) }
+    {
+        let last = self.roots.len() - 1;
+        let slot = self.roots[last];
+        let first = slot.first as usize;
+        let end = first + slot.count as usize;
+        replace_last(&mut self.roots, last, &self.below[first..end])?;
         Ok(())
     }
 

@@ -9,6 +9,7 @@ mod convert;
 mod cursor;
 mod find;
 mod forest;
+mod hash;
 mod kinds;
 mod laws;
 mod rewriting;
@@ -20,9 +21,12 @@ pub use convert::{push_node, to_node};
 pub use cursor::Cursor;
 pub use find::mentions;
 pub use forest::Forest;
-pub use laws::{summaries_are_what_a_search_finds, trees_with_nothing_to_do_are_passed_over};
+pub use laws::{
+    opening_undoes_wrapping, summaries_are_what_a_search_finds,
+    trees_with_nothing_to_do_are_passed_over,
+};
 pub use rewriting::{Rule, rewrite};
-pub use scan::Test;
+pub use scan::Scan;
 pub use summary::{Summary, kind_summary};
 
 #[cfg(test)]

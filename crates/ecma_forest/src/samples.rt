@@ -4,9 +4,9 @@ ghost use Rattle.ecma_forest.specs.Samples.{asks_for_types, asks_for_types-law, 
 use crate::change::Change;
 use crate::forest::Forest;
 use crate::rewriting::Rule;
-use crate::scan::Test;
+use crate::scan::Scan;
 use crate::summary::Summary;
-use ecma_tree::{DUMMY_SP, Kind, NoMemory};
+use ecma_tree::{DUMMY_SP, Kind, NoMemory, Span};
 
 /// A type annotation is missing, type parameters go, and type arguments leave what they hold.
 #[derive(Drop)]
@@ -18,7 +18,7 @@ impl Rule for SampleRule {
     ghost works_at = { λ _. asks_for_types };
 
     fn works_at(&self, summary: Summary) -> bool {
-        summary.types
+        summary.types()
     }
 
     fn apply(&self, forest: &mut Forest, at: u32, start: usize) -> Result<(), NoMemory> {
@@ -61,10 +61,10 @@ impl Change for Unquestioned {
 #[derive(Drop)]
 pub struct BeginsWithThis {}
 
-impl Test for BeginsWithThis {
-    ghost test = { λ _. begins_with_this };
+impl Scan<bool> for BeginsWithThis {
+    ghost step = { λ _. begins_with_this };
 
-    fn test(&self, kind: &Kind, children: &[bool]) -> bool {
+    fn step(&self, _span: Span, kind: &Kind, children: &[bool]) -> bool {
         matches!(kind, Kind::ThisExpr) || matches!(children.first(), Some(true))
     }
 }

@@ -1,42 +1,44 @@
-//! What is said of every tree, in one walk along the array.
-ghost use Rattle.std.specs.Prelude.{◌≡◌, ◌<◌, ◌≤◌, ◌+◌, Bool, IfOk, List, map, take, drop, length};
+//! What is made of every tree, in one walk along the array.
+ghost use Rattle.std.specs.Prelude.{◌≡◌, ◌<◌, ◌≤◌, ◌+◌, IfOk, List, map, take, drop, length};
 ghost use Rattle.ecma_kind.specs.declared.kind.Kind.{Kind};
-ghost use Rattle.ecma_forest.specs.Scanning.{tested};
+ghost use Rattle.ecma_kind.specs.declared.span.Span.{Span};
+ghost use Rattle.ecma_forest.specs.Scanning.{scanned};
 ghost use Rattle.ecma_forest.specs.Slots.{kind_at};
 
 use crate::forest::{Forest, Slot};
-use ecma_tree::{Kind, NoMemory};
+use crate::kinds::KindTable;
+use ecma_tree::{Kind, NoMemory, Span};
 use std::alloc::Global;
 
-/// A test of a tree by the kind of its root, and by what the test says of its children.
-pub trait Test {
-    ghost test: { Self → Kind → List Bool → Bool };
+/// What is made of a tree: of the span and the kind of its root, and of what was made of its children.
+pub trait Scan<A> {
+    ghost step: { Self → Span → Kind → List A → A };
 
-    /// What it says of a tree.
-    fn test(&self, kind: &Kind, children: &[bool]) -> bool
-        ensures { result ≡ test self.now kind.now children.now };
+    /// What is made of a node of whose children this was made.
+    fn step(&self, span: Span, kind: &Kind, children: &[A]) -> A
+        ensures { result ≡ step self.now span kind.now children.now };
 }
 
-fn test_slot<T: Test>(test: &T, kinds: &[Kind], slot: &Slot, known: &[bool]) -> bool
+fn scan_slot<A, S: Scan<A>>(scan: &S, kinds: &KindTable, slot: &Slot, made: &[A]) -> A
     requires kind { slot.now.kind < length kinds.now }
-    requires front { slot.now.first + slot.now.count ≤ length known.now }
-    ensures { result ≡ T.test test.now (kind_at kinds.now slot.now.kind) (take slot.now.count (drop slot.now.first known.now)) }
+    requires front { slot.now.first + slot.now.count ≤ length made.now }
+    ensures { result ≡ S.step scan.now slot.now.span (kind_at kinds.now slot.now.kind) (take slot.now.count (drop slot.now.first made.now)) }
 {
     let first = slot.first as usize;
     let end = first + slot.count as usize;
-    test.test(&kinds[slot.kind as usize], &known[first..end])
+    scan.step(slot.span, kinds.at(slot.kind), &made[first..end])
 }
 
 impl Forest {
-    /// What the test says of the tree at each place: one walk along the array, with no recursion.
-    pub fn scan<T: Test>(&self, alloc: Global, test: &T) -> Result<Vec<bool>, NoMemory>
-        ensures { IfOk result (λ known. known.items ≡ map (tested (T.test test.now)) self.now.below) }
+    /// What is made of the tree at each place: one walk along the array, with no recursion.
+    pub fn scan<A: Drop, S: Scan<A>>(&self, alloc: Global, scan: &S) -> Result<Vec<A>, NoMemory>
+        ensures { IfOk result (λ made. made.items ≡ map (scanned (S.step scan.now)) self.now.below) }
     {
-        let mut known = Vec::new(alloc);
+        let mut made = Vec::new(alloc);
         for slot in self.below.as_slice() {
-            let holds = test_slot(test, self.kinds.as_slice(), slot, known.as_slice());
-            known.push(holds)?;
+            let next = scan_slot(scan, &self.kinds, slot, made.as_slice());
+            made.push(next)?;
         }
-        Ok(known)
+        Ok(made)
     }
 }

@@ -84,8 +84,8 @@ fn a_cursor_reads_what_stands_there(rt: HostRuntime) -> Result<(), Fail> {
     let call = forest.at(at);
     assert!(rt; matches!(call.kind(), Kind::CallExpr));
     assert_eq!(rt; call.count(), 3);
-    assert!(rt; call.summary().types);
-    assert!(rt; !call.summary().enums);
+    assert!(rt; call.summary().types());
+    assert!(rt; !call.summary().enums());
     assert!(rt; mentions(&call, "f"));
     assert!(rt; !mentions(&call, "g"));
     match child(&call, 1) {
@@ -140,7 +140,7 @@ fn has_no_question(forest: &Forest, at: u32) -> bool {
     }
     let tree = forest.at(at);
     match child(&tree, 0) {
-        Some(first) => !tree.summary().types
+        Some(first) => !tree.summary().types()
             && matches!(
                 first.kind(),
                 Kind::Ident {

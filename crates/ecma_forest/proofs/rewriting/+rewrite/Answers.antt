@@ -5,7 +5,7 @@ use Rattle.ecma_forest.specs.Summaries.{tree_summary}
 use Rattle.ecma_forest.proofs.Keeping.{kept}
 use Rattle.ecma_forest.proofs.Places.{extends-on, node-extends}
 use Rattle.ecma_forest.proofs.Smaller.{child-smaller}
-use Rattle.ecma_forest.proofs.Rest.{rest, rest-item, rewritten-all}
+use Rattle.ecma_forest.proofs.Rest.{front, front-item, rewritten-all, taken-back}
 use Rattle.ecma_forest.proofs.rewriting.+rewrite.Goals as goal
 
 pub returns-then-not-works_at-clause-ok : goal.returns-then-not-works_at-clause-ok
@@ -28,10 +28,9 @@ loop-i-preserved g t c =
     let stays : node c.loop-i.forest c.args.at ≡ node c.args.forest.now c.args.at = node-extends c.args.forest.now c.loop-i.forest c.args.at c.loop-i.invariant.0 c.requires in
     let item : slice_get (out-Node (node c.args.forest.now c.args.at)).children c.loop-i.i ≡ Some (node c.loop-i.forest c.child-child.result) =
     subst (λ n. slice_get (out-Node n).children c.loop-i.i ≡ Some (node c.loop-i.forest c.child-child.result)) stays c.child-child.ensures.node in (
-      extends-on c.args.forest.now.below c.loop-i.forest.below c.rewrite.new.forest.below c.loop-i.invariant.0 c.in_ok-rewrite.ensures.more,
-      ap (λ ns. ns ++ rest rule (node c.args.forest.now c.args.at) (c.loop-i.i + 1)) c.in_ok-rewrite.ensures.ok
-          ∙ rest-item rule (node c.args.forest.now c.args.at) (node c.loop-i.forest c.child-child.result) c.loop-i.forest.roots c.loop-i.i item
-          ∙ c.loop-i.invariant.1,
+      extends-on c.args.forest.now.below c.loop-i.forest.below c.rewrite.new.forest.below c.loop-i.invariant.0 c.rewrite.ensures.more,
+      c.in_default.ensures.ok
+          ∙ front-item rule (node c.args.forest.now c.args.at) (node c.loop-i.forest c.child-child.result) c.args.forest.now.roots c.loop-i.forest.roots c.loop-i.i item c.loop-i.invariant.1,
     )
 
 pub returns-clause-ok : goal.returns-clause-ok
@@ -39,7 +38,7 @@ returns-clause-ok g t c =
     let rule = g.R.Rule.rule c.args.rule.now in
     let stays : node c.loop-i.forest c.args.at ≡ node c.args.forest.now c.args.at = node-extends c.args.forest.now c.loop-i.forest c.args.at c.loop-i.invariant.0 c.requires in
     let all : length (out-Node (node c.args.forest.now c.args.at)).children ≤ c.loop-i.i = omega arith in
-    c.in_ok-apply.ensures.ok
+    c.in_default-apply.ensures.ok
     ∙ ap (λ n. take c.len-start.result c.loop-i.forest.roots ++ rule (out-Node n).span (out-Node n).kind (drop c.len-start.result c.loop-i.forest.roots)) stays
     ∙ ap (λ k. take k c.loop-i.forest.roots ++ rule (out-Node (node c.args.forest.now c.args.at)).span (out-Node (node c.args.forest.now c.args.at)).kind (drop k c.loop-i.forest.roots)) c.len-start.ensures
     ∙ rewritten-all rule (node c.args.forest.now c.args.at) c.args.forest.now.roots c.loop-i.forest.roots c.loop-i.i c.loop-i.invariant.1 all

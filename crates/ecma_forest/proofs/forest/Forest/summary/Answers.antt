@@ -3,7 +3,7 @@ use Rattle.ecma_forest.proofs.Places.{within, summary-is}
 use Rattle.ecma_forest.proofs.forest.Forest.summary.Goals as goal
 
 pub index-requires : goal.index-requires
-index-requires c = omega (arith, c.self.inside.below.ok.0, within c.self.inside.kinds.items c.self.inside.below.items c.self.inside.roots.items c.args.self.now c.self.view_is c.self.invariant c.args.at c.requires)
+index-requires c = omega (arith, c.self.inside.below.ok.0, within c.self.inside.kinds c.self.inside.below.items c.self.inside.roots.items c.args.self.now c.self.view_is c.self.invariant c.args.at c.requires)
 
 pub returns : goal.returns
-returns c = summary-is c.self.inside.kinds.items c.self.inside.below.items c.self.inside.roots.items c.args.self.now c.self.view_is c.self.invariant c.args.at c.requires c.index.result.now c.index.ensures
+returns c = summary-is c.self.inside.kinds c.self.inside.below.items c.self.inside.roots.items c.args.self.now c.self.view_is c.self.invariant c.args.at c.requires c.index.result.now c.index.ensures

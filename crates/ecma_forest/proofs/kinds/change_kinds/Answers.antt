@@ -1,6 +1,6 @@
 use Rattle.std.proofs.Common.{◌<◌, length, arith}
 use Rattle.ecma_forest.proofs.Changed.{change-step}
-use Rattle.ecma_forest.proofs.change.change_kinds.Goals as goal
+use Rattle.ecma_forest.proofs.kinds.change_kinds.Goals as goal
 
 pub loop-i-preserved : goal.loop-i-preserved
 loop-i-preserved g c =
