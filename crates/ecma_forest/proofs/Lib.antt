@@ -12,3 +12,4 @@ pub mod Changed
 pub mod Scans
 pub mod PassingOver
 pub mod Opening
+pub mod Gathered

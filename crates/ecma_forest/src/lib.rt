@@ -5,6 +5,7 @@
 #![tactic(auto)]
 
 mod change;
+mod collect;
 mod convert;
 mod cursor;
 mod find;
@@ -17,6 +18,7 @@ mod scan;
 mod summary;
 
 pub use change::Change;
+pub use collect::symbols;
 pub use convert::{push_node, to_node};
 pub use cursor::Cursor;
 pub use find::mentions;

@@ -68,6 +68,41 @@ fn lay_call(alloc: Global, forest: &mut Forest) -> Result<u32, NoMemory>
     }
 }
 
+#[test]
+fn a_summary_tells_what_stands_there(rt: HostRuntime) -> Result<(), Fail> {
+    let summary = kind_summary(&Kind::ForInStmt).join(kind_summary(&Kind::GetterProp));
+    assert!(rt; summary.patterns() && summary.scopes() && summary.functions());
+    assert!(rt; !summary.types() && !summary.enums() && !summary.namespaces());
+    assert!(rt; !summary.param_props() && !summary.names());
+    Ok(())
+}
+
+#[test]
+fn names_are_collected(rt: HostRuntime) -> Result<(), Fail> {
+    let mut forest = Forest::new(rt.alloc());
+    let at = lay_call(rt.alloc(), &mut forest)?;
+    let names = symbols(rt.alloc(), &forest.at(at))?;
+    assert_eq!(rt; names.len(), 1);
+    Ok(())
+}
+
+#[test]
+fn a_root_is_taken_apart(rt: HostRuntime) -> Result<(), Fail> {
+    let mut forest = Forest::new(rt.alloc());
+    forest.leaf(SPAN, Kind::Null)?;
+    forest.leaf(SPAN, Kind::ThisExpr)?;
+    forest.leaf(SPAN, Kind::Super)?;
+    forest.wrap_like(SPAN, &Kind::ForInStmt, 1)?;
+    assert_eq!(rt; forest.len(), 2);
+    assert!(rt; matches!(forest.root_kind(1), Kind::ForInStmt));
+    assert_eq!(rt; forest.root_span(1), SPAN);
+    forest.open()?;
+    assert_eq!(rt; forest.len(), 3);
+    assert!(rt; matches!(forest.root_kind(0), Kind::Null));
+    assert!(rt; matches!(forest.root_kind(2), Kind::Super));
+    Ok(())
+}
+
 /// The child of an index, if there is one.
 fn child<'a>(tree: &Cursor<'a>, i: u32) -> Option<Cursor<'a>> {
     if i < tree.count() {
