@@ -41,12 +41,14 @@ join-assoc a b c = λ i. record {
   names = or-assoc a.names b.names c.names i;
 }
 
-slots_summary-next : (own : Summary) (slots : List Slot) (i : ℕ) (s : Slot) → slice_get slots i ≡ Some s → join_summaries (join_summaries own s.summary) (slots_summary (drop (suc i) slots)) ≡ join_summaries own (slots_summary (drop i slots))
+slots_summary-next : (own : Summary) (slots : List Slot) (i : ℕ) (s : Slot) → slice_get slots i ≡ Some s → join_summaries
+    (join_summaries own s.summary) (slots_summary (drop (suc i) slots)) ≡ join_summaries own (slots_summary (drop i slots))
 slots_summary-next own [] i s at = cc
 slots_summary-next own (x ∷ xs) zero s at = let same : s ≡ x = cc in ap (λ y. join_summaries (join_summaries own y.summary) (slots_summary xs)) same ∙ join-assoc own x.summary (slots_summary xs)
 slots_summary-next own (x ∷ xs) (suc i) s at = slots_summary-next own xs i s at
 
-pub slots_summary-item : (own : Summary) (slots : List Slot) (i : ℕ) (s : Slot) → slice_get slots i ≡ Some s → join_summaries (join_summaries own s.summary) (slots_summary (drop (i + 1) slots)) ≡ join_summaries own (slots_summary (drop i slots))
+pub slots_summary-item : (own : Summary) (slots : List Slot) (i : ℕ) (s : Slot) → slice_get slots i ≡ Some s → join_summaries
+    (join_summaries own s.summary) (slots_summary (drop (i + 1) slots)) ≡ join_summaries own (slots_summary (drop i slots))
 slots_summary-item own slots i s at = rw add-one (slots_summary-next own slots i s at)
 
 larger-is : (a b : ℕ) → a < 2 → b < 2 → eqb (max a b) 1 ≡ (eqb a 1 || eqb b 1)

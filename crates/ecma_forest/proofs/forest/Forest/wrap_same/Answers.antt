@@ -17,9 +17,15 @@ at-requires c = (kind-known c.self.inside.kinds c.self.inside.below.items c.self
 pub invariant_of-self-2 : goal.invariant_of-self-2
 invariant_of-self-2 c =
     let says : c.kind_summary-own.result ≡ kind_summary (kind_at c.self.inside.kinds c.index-slot.result.now.kind) =
-    c.kind_summary-own.ensures ∙ ap kind_summary (kind-is c.self.inside.kinds c.self.inside.below.items c.self.inside.roots.items c.args.self.now c.self.view_is c.self.invariant c.args.at c.requires.at c.index-slot.result.now c.index-slot.ensures c.at.result.now c.at.ensures ∙ sym (kind-at_is c.self.inside.kinds c.self.inside.below.items c.self.inside.roots.items c.args.self.now c.self.view_is c.self.invariant c.args.at c.requires.at c.index-slot.result.now c.index-slot.ensures)) in
+    c.kind_summary-own.ensures ∙ ap kind_summary (kind-is c.self.inside.kinds c.self.inside.below.items c.self.inside.roots.items
+    c.args.self.now c.self.view_is c.self.invariant c.args.at c.requires.at c.index-slot.result.now c.index-slot.ensures
+    c.at.result.now c.at.ensures ∙ sym (kind-at_is c.self.inside.kinds c.self.inside.below.items c.self.inside.roots.items
+    c.args.self.now c.self.view_is c.self.invariant c.args.at c.requires.at c.index-slot.result.now c.index-slot.ensures)) in
     rw (c.in_ok-put_over.ensures.below, c.in_ok-put_over.ensures.roots)
-    (wrapped-rooted c.self.inside.kinds c.self.inside.below.items c.self.inside.roots.items c.index-slot.result.now.span c.index-slot.result.now.kind c.kind_summary-own.result c.args.start c.self.invariant (kind-known c.self.inside.kinds c.self.inside.below.items c.self.inside.roots.items c.args.self.now c.self.view_is c.self.invariant c.args.at c.requires.at c.index-slot.result.now c.index-slot.ensures) says)
+    (wrapped-rooted c.self.inside.kinds c.self.inside.below.items c.self.inside.roots.items c.index-slot.result.now.span
+    c.index-slot.result.now.kind c.kind_summary-own.result c.args.start c.self.invariant (kind-known c.self.inside.kinds
+    c.self.inside.below.items c.self.inside.roots.items c.args.self.now c.self.view_is c.self.invariant c.args.at c.requires.at
+    c.index-slot.result.now c.index-slot.ensures) says)
 
 pub returns-clause-below : goal.returns-clause-below
 returns-clause-below c =
@@ -31,5 +37,9 @@ returns-clause-roots c =
     rw (c.in_ok-put_over.ensures.below, c.in_ok-put_over.ensures.roots)
     (wrapped-trees c.self.inside.kinds c.self.inside.below.items c.self.inside.roots.items c.index-slot.result.now.span c.index-slot.result.now.kind c.kind_summary-own.result c.args.start c.self.invariant
     ∙ ap (λ t. take c.args.start t.roots ++ node_of c.index-slot.result.now.span (kind_at c.self.inside.kinds c.index-slot.result.now.kind) (drop c.args.start t.roots) ∷ []) c.self.view_is
-    ∙ ap (λ s. take c.args.start c.args.self.now.roots ++ node_of s (kind_at c.self.inside.kinds c.index-slot.result.now.kind) (drop c.args.start c.args.self.now.roots) ∷ []) (span-is c.self.inside.kinds c.self.inside.below.items c.self.inside.roots.items c.args.self.now c.self.view_is c.self.invariant c.args.at c.requires.at c.index-slot.result.now c.index-slot.ensures)
-    ∙ ap (λ k. take c.args.start c.args.self.now.roots ++ node_of (out-Node (node c.args.self.now c.args.at)).span k (drop c.args.start c.args.self.now.roots) ∷ []) (kind-at_is c.self.inside.kinds c.self.inside.below.items c.self.inside.roots.items c.args.self.now c.self.view_is c.self.invariant c.args.at c.requires.at c.index-slot.result.now c.index-slot.ensures))
+    ∙ ap (λ s. take c.args.start c.args.self.now.roots ++ node_of s (kind_at c.self.inside.kinds c.index-slot.result.now.kind) (drop
+    c.args.start c.args.self.now.roots) ∷ []) (span-is c.self.inside.kinds c.self.inside.below.items c.self.inside.roots.items
+    c.args.self.now c.self.view_is c.self.invariant c.args.at c.requires.at c.index-slot.result.now c.index-slot.ensures)
+    ∙ ap (λ k. take c.args.start c.args.self.now.roots ++ node_of (out-Node (node c.args.self.now c.args.at)).span k (drop c.args.start
+    c.args.self.now.roots) ∷ []) (kind-at_is c.self.inside.kinds c.self.inside.below.items c.self.inside.roots.items c.args.self.now
+    c.self.view_is c.self.invariant c.args.at c.requires.at c.index-slot.result.now c.index-slot.ensures))
