@@ -1,6 +1,6 @@
 -- What the slot at a place says of the tree there.
-use Rattle.std.proofs.Common.{◌≡◌, ◌<◌, ◌+◌, refl, sym, ap, ◌∙◌, ℕ, List, [], ◌∷◌, ◌++◌, length, Some, slice_get, get_or, arith, subst, append_assoc, take}
-use Rattle.std.proofs.lemmas.List.{append-nil, map-append, take-map, get_or_append_left}
+use Rattle.std.proofs.Common.{◌≡◌, ◌<◌, ◌+◌, refl, sym, ap, ◌∙◌, ℕ, List, [], ◌∷◌, ◌++◌, length, Some, slice_get, get_or, arith, subst, append_assoc, drop, take, OnErr, OnOk, Result, Ok, Err}
+use Rattle.std.proofs.lemmas.List.{append-nil, map-append, take-append-drop, take-map, get_or_append_left}
 use Rattle.std.proofs.lemmas.Option.{get_or_from_slice_get, slice_get-get_or, slice_get_read}
 use Rattle.ecma_kind.specs.declared.kind.Kind.{Kind}
 use Rattle.ecma_kind.specs.declared.kind.Kind.TheVariants.{Absent}
@@ -117,3 +117,13 @@ cut-rooted kinds below roots start h = record {
 
 pub cut-roots : (kinds : List Kind) (below roots : List Slot) (start : ℕ) → trees_over kinds below (take start roots) ≡ take start (trees_over kinds below roots)
 cut-roots kinds below roots start = sym (take-map (tree_of kinds (grown kinds below)) start roots)
+
+-- where nothing changed, the roots in front of start stay
+pub front-stays : {A E : Type 0} (r : Result A E) (old new : Trees) (start : ℕ) → OnErr r (new ≡ old) → OnErr r (Extends (take start old.roots) new.roots)
+front-stays (Ok a) old new start h = tt
+front-stays (Err e) old new start h = (drop start old.roots, ap (λ t. t.roots) h ∙ sym (take-append-drop start old.roots))
+
+-- whatever came of it, what had a place has it
+pub either-extends : {A E : Type 0} (r : Result A E) (old new : Trees) (more : List Node) → OnOk r (new.below ≡ old.below ++ more) → OnErr r (new ≡ old) → Extends old.below new.below
+either-extends (Ok a) old new more h g = (more, h)
+either-extends (Err e) old new more h g = ([], ap (λ t. t.below) g ∙ sym (append-nil old.below))
