@@ -1,5 +1,5 @@
 -- The sets of kinds that a summary tells of, and the byte that holds them.
-use Rattle.std.specs.Prelude.{◌≡◌, ◌<◌, ◌+◌, ◌/◌, ◌%◌, ◌==◌, ℕ, Bool, true, false}
+use Rattle.std.specs.Prelude.{◌+◌, ◌/◌, ◌%◌, ◌==◌, ℕ, Bool, true, false}
 
 -- for each set whether a kind of it stands somewhere
 pub record Sets : Type 0 where

@@ -1,6 +1,5 @@
 use Rattle.std.proofs.Common.{◌≡◌, ◌∙◌, ◌++◌, ◌+◌, ap, arith, false, sym}
-use Rattle.ecma_tree.specs.Gathering.{symbol_here, symbols_of}
-use Rattle.ecma_tree.specs.declared.node.Node.{out-Node}
+use Rattle.ecma_tree.specs.Gathering.{symbol_here}
 use Rattle.ecma_forest.specs.Summaries.{tree_summary}
 use Rattle.ecma_forest.proofs.Smaller.{child-smaller}
 use Rattle.ecma_forest.proofs.Gathered.{symbols-all, symbols-first, symbols-item, symbols-none, symbols_in_rest}

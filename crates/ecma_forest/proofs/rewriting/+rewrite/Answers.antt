@@ -1,11 +1,11 @@
-use Rattle.std.proofs.Common.{◌≡◌, ◌<◌, ◌≤◌, ◌+◌, ◌∙◌, ◌++◌, sym, ap, subst, arith, length, take, drop, false, slice_get, Some}
+use Rattle.std.proofs.Common.{◌≡◌, ◌<◌, ◌≤◌, ◌∙◌, ◌++◌, sym, ap, subst, arith, length, take, drop, false, slice_get, Some}
 use Rattle.ecma_tree.specs.declared.node.Node.{out-Node, size-Node}
 use Rattle.ecma_forest.specs.Trees.{node}
 use Rattle.ecma_forest.specs.Summaries.{tree_summary}
 use Rattle.ecma_forest.proofs.Keeping.{kept}
 use Rattle.ecma_forest.proofs.Places.{extends-on, node-extends}
 use Rattle.ecma_forest.proofs.Smaller.{child-smaller}
-use Rattle.ecma_forest.proofs.Rest.{front, front-item, rewritten-all, taken-back}
+use Rattle.ecma_forest.proofs.Rest.{front-item, rewritten-all}
 use Rattle.ecma_forest.proofs.rewriting.+rewrite.Goals as goal
 
 pub returns-then-not-works_at-clause-ok : goal.returns-then-not-works_at-clause-ok

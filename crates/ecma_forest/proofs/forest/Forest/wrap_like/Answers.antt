@@ -1,4 +1,3 @@
-use Rattle.std.proofs.Common.{◌∙◌}
 use Rattle.ecma_forest.proofs.Wrapping.{longer, longer-trees, on_err, over-below, over-rooted, over-roots}
 use Rattle.ecma_forest.proofs.forest.Forest.wrap_like.Goals as goal
 
