@@ -23,7 +23,7 @@ use Rattle.ecma_hygiene_fits.specs.Spelled.{is_long}
 use Rattle.ecma_plain.specs.Plain.{HasUtf8Texts}
 use Rattle.ecma_plain.specs.Writable.{IsWritable}
 use Rattle.ecma_lower_enums.specs.Lowered.{known_enums}
-use Rattle.ecma_lower_enums_sources.specs.Laws.{WritingEnumsKeepsNamesShort, WritingEnumsMakesNoNames, WrittenEnumsHaveTexts, written}
+use Rattle.ecma_lower_enums_sources.specs.Laws.{WritingEnumsKeepsIds, WritingEnumsKeepsNamesShort, WritingEnumsMakesNoNames, WrittenEnumsHaveTexts, is_such, written}
 use Rattle.ecma_lower_enums_sources.specs.Premises.{AreWritten, HasText, HasTextBy, IsText}
 use Rattle.ecma_lower_enums_sources.specs.Throughout.{Throughout}
 use Rattle.ecma_lower_enums_sources.proofs.Literals.{IsValueSo, Literals, is_operator, known-good, undefined-good}
@@ -214,3 +214,12 @@ pub writing_enums_makes_no_names : WritingEnumsMakesNoNames
 writing_enums_makes_no_names may_change keeps_constants members tree h =
     fails-nowhere (λ n. is_made (out-Node n).kind (out-Node n).span) (written may_change keeps_constants members tree)
     (none-written made made-silent (λ span sym ctxt optional. refl) may_change keeps_constants members tree (fails-everywhere-not (λ n. is_made (out-Node n).kind (out-Node n).span) tree h))
+
+such-silent : (test : List ℕ → ℕ → Bool) (span : Span) (k : Kind) → is_ident k ≡ false → is_such test k ≡ false
+such-silent test span (kind.Ident sym ctxt optional) h = cc
+such-silent test span _ h = refl
+
+pub writing_enums_keeps_ids : WritingEnumsKeepsIds
+writing_enums_keeps_ids may_change keeps_constants members tree test h =
+    fails-nowhere (λ n. is_such test (out-Node n).kind) (written may_change keeps_constants members tree)
+    (none-written (λ span k. is_such test k) (such-silent test) (λ span sym ctxt optional. refl) may_change keeps_constants members tree (fails-everywhere-not (λ n. is_such test (out-Node n).kind) tree h))

@@ -1,16 +1,16 @@
-mod Trees
-mod Names
+pub mod Trees
+pub mod Names
 mod Pieces
 mod Making
 mod Literals
 mod Kept
-mod Relation
-mod Suiting
+pub mod Relation
+pub mod Suiting
 mod Forming
-mod Relating
+pub mod Relating
 mod Sorted
-mod SortsKept
-mod Alike
+pub mod SortsKept
+pub mod Alike
 mod Tests
 mod Clauses
-mod ClausesKept
+pub mod ClausesKept

@@ -16,8 +16,9 @@ use Rattle.ecma_lower_enums.specs.declared.known.EnumName.{EnumName}
 use Rattle.ecma_lower_enums.specs.declared.known.EnumName.TheVariants as name
 use Rattle.ecma_lower_enums.specs.Known.{alias_by, enum_of, id_of, is_id, name_at, or_else, unmarked}
 use Rattle.ecma_lower_enums.specs.Names.{default_name, everywhere, items_at, lacks, local_name, member_name, member_names, names_by, names_here, names_in, names_of_enum, names_of_export, specifier_by, specifier_name, specifier_names}
+use Rattle.ecma_lower_enums.specs.Writing.{is_enum_kind}
 use Rattle.ecma_lower_enums_sources.specs.Throughout.{Each, Throughout, more, none, throughout}
-use Rattle.ecma_lower_enums_sources.proofs.Trees.{first-of, here}
+use Rattle.ecma_lower_enums_sources.proofs.Trees.{below, first-of, here}
 
 module _ (P : Span → Kind → Type 0) where
   -- a name, as an identifier
@@ -58,33 +59,10 @@ module _ (P : Span → Kind → Type 0) where
   alias-given sym ctxt [] h = tt
   alias-given sym ctxt (n ∷ ns) h = either-given (enum_of sym ctxt n) (alias_by sym ctxt ns) (enum-given sym ctxt n h.0) (alias-given sym ctxt ns h.1)
 
-  -- ---- the names of a tree
+  -- ---- the names of enums
 
-  module _ (Q : Node → Type 0) (given : (n : Node) → Q n → P (out-Node n).span (out-Node n).kind)
-      (unmarks : (span : Span) (sym : List ℕ) (ctxt : ℕ) (optional : Bool) → P span (kind.Ident sym ctxt optional) → P span (kind.Ident sym ctxt false)) where
-    named-roll : (span : Span) (k : Kind) (cs : List Node) → P span k → IsNamed (ident_of (node_of span k cs))
-    named-roll span (kind.Ident text ctxt optional) cs h =
-        let name : Ident = record { span = span; ctxt = ctxt; sym = text; optional = optional } in
-        let is : ident_of (node_of span (kind.Ident text ctxt optional) cs) ≡ Some name = rw (out-roll-Node (record { span = span; kind = kind.Ident text ctxt optional; children = cs })) refl in
-        subst IsNamed (sym is) h
-    named-roll span k cs h =
-        let is : ident_of (node_of span k cs) ≡ None = rw (out-roll-Node (record { span = span; kind = k; children = cs })) refl in
-        subst IsNamed (sym is) tt
-
-    ident-named : (n : Node) → P (out-Node n).span (out-Node n).kind → IsNamed (ident_of n)
-    ident-named n h = subst (λ z. IsNamed (ident_of z)) (roll-out-Node n) (named-roll (out-Node n).span (out-Node n).kind (out-Node n).children h)
-
-    unmarked-named : (o : Option Ident) → IsNamed o → IsNamed (option_map unmarked o)
-    unmarked-named None h = tt
-    unmarked-named (Some of) h = unmarks of.span of.sym of.ctxt of.optional h
-
-    pub first-named : (cs : List Node) → Each Q cs → IsNamed (option_and_then ident_of (slice_get cs 0))
-    first-named [] h = tt
-    first-named (c ∷ cs) h = ident-named c (given c (here Q (first-of Q h)))
-
-    pub name-named : (cs : List Node) → Each Q cs → IsNamed (name_at cs)
-    name-named cs h = unmarked-named (option_and_then ident_of (slice_get cs 0)) (first-named cs h)
-
+  -- where those of the enums of a tree are such
+  module _ (Q : Node → Type 0) (enum-named : (n : Node) → Throughout Q n → is_enum_kind (out-Node n).kind ≡ true → IsNamed (name_at (out-Node n).children)) where
     -- members have the name of their enum
     members-given : (of : Ident) → IsName of → (ms : List Node) → AreGiven (member_names of ms)
     members-given of h [] = tt
@@ -94,8 +72,8 @@ module _ (P : Span → Kind → Type 0) where
         by None = tt
         by (Some ident) = (h, tt)
 
-    enum-names-given : (cs : List Node) → Each Q cs → AreGiven (names_of_enum cs)
-    enum-names-given cs h = by (name_at cs) (name-named cs h)
+    enum-names-given : (cs : List Node) → IsNamed (name_at cs) → AreGiven (names_of_enum cs)
+    enum-names-given cs h = by (name_at cs) h
       where
         by : (o : Option Ident) → IsNamed o → AreGiven (option_map_or (λ of. member_names of (items_at cs 1)) o [])
         by None g = tt
@@ -131,9 +109,9 @@ module _ (P : Span → Kind → Type 0) where
         by None = tt
         by (Some id) = (tt, tt)
 
-    names-given : (k : Kind) (n : Node) (cs : List Node) → Each Q cs → AreGiven (names_by k n cs)
+    names-given : (k : Kind) (n : Node) (cs : List Node) → (is_enum_kind k ≡ true → IsNamed (name_at cs)) → AreGiven (names_by k n cs)
     unfolding names_by
-    names-given (kind.TsEnumDecl declare is_const) n cs h = enum-names-given cs h
+    names-given (kind.TsEnumDecl declare is_const) n cs h = enum-names-given cs (h refl)
     names-given (kind.NamedExport type_only) n cs h = export-given type_only cs
     names-given kind.ExportDefaultExpr n cs h = default-given n
     names-given _ n cs h = tt
@@ -148,11 +126,42 @@ module _ (P : Span → Kind → Type 0) where
     names-out n = ap (λ f. f tt) (from_leaves_out (Unit {0} → List EnumName) (listing_step (Unit {0}) EnumName everywhere names_here) n)
 
     mutual
-      pub tree-given : {n : Node} → Throughout Q n → AreGiven (names_in n)
-      tree-given {n} (throughout q h) =
+      pub enums-given : {n : Node} → Throughout Q n → AreGiven (names_in n)
+      enums-given {n} (throughout q h) =
           subst AreGiven (sym (names-out n))
-          (append-given (names_here tt n) (names_from 0 (out-Node n).children) (names-given (out-Node n).kind n (out-Node n).children h) (trees-given h 0))
+          (append-given (names_here tt n) (names_from 0 (out-Node n).children) (names-given (out-Node n).kind n (out-Node n).children (enum-named n (throughout q h))) (each-given h 0))
 
-      trees-given : {ns : List Node} → Each Q ns → (i : ℕ) → AreGiven (names_from i ns)
-      trees-given none i = tt
-      trees-given (more {n} {ns} a h) i = append-given (names n) (names_from (suc i) ns) (tree-given a) (trees-given h (suc i))
+      each-given : {ns : List Node} → Each Q ns → (i : ℕ) → AreGiven (names_from i ns)
+      each-given none i = tt
+      each-given (more {n} {ns} a h) i = append-given (names n) (names_from (suc i) ns) (enums-given a) (each-given h (suc i))
+
+  -- ---- the identifiers of a tree
+
+  module _ (Q : Node → Type 0) (given : (n : Node) → Q n → P (out-Node n).span (out-Node n).kind)
+      (unmarks : (span : Span) (sym : List ℕ) (ctxt : ℕ) (optional : Bool) → P span (kind.Ident sym ctxt optional) → P span (kind.Ident sym ctxt false)) where
+    named-roll : (span : Span) (k : Kind) (cs : List Node) → P span k → IsNamed (ident_of (node_of span k cs))
+    named-roll span (kind.Ident text ctxt optional) cs h =
+        let name : Ident = record { span = span; ctxt = ctxt; sym = text; optional = optional } in
+        let is : ident_of (node_of span (kind.Ident text ctxt optional) cs) ≡ Some name = rw (out-roll-Node (record { span = span; kind = kind.Ident text ctxt optional; children = cs })) refl in
+        subst IsNamed (sym is) h
+    named-roll span k cs h =
+        let is : ident_of (node_of span k cs) ≡ None = rw (out-roll-Node (record { span = span; kind = k; children = cs })) refl in
+        subst IsNamed (sym is) tt
+
+    ident-named : (n : Node) → P (out-Node n).span (out-Node n).kind → IsNamed (ident_of n)
+    ident-named n h = subst (λ z. IsNamed (ident_of z)) (roll-out-Node n) (named-roll (out-Node n).span (out-Node n).kind (out-Node n).children h)
+
+    unmarked-named : (o : Option Ident) → IsNamed o → IsNamed (option_map unmarked o)
+    unmarked-named None h = tt
+    unmarked-named (Some of) h = unmarks of.span of.sym of.ctxt of.optional h
+
+    pub first-named : (cs : List Node) → Each Q cs → IsNamed (option_and_then ident_of (slice_get cs 0))
+    first-named [] h = tt
+    first-named (c ∷ cs) h = ident-named c (given c (here Q (first-of Q h)))
+
+    pub name-named : (cs : List Node) → Each Q cs → IsNamed (name_at cs)
+    name-named cs h = unmarked-named (option_and_then ident_of (slice_get cs 0)) (first-named cs h)
+
+    -- where all identifiers are such
+    pub tree-given : {n : Node} → Throughout Q n → AreGiven (names_in n)
+    tree-given h = enums-given Q (λ n t e. name-named (out-Node n).children (below Q t)) h

@@ -1,5 +1,7 @@
 -- A module with its enums written, and with reads of their members, whatever is known of these: it is one by its sorts, keeps clauses of what fits, its texts can be written, and no name is made.
-use Rattle.std.specs.Prelude.{Bool, List}
+use Rattle.std.specs.Prelude.{ℕ, Bool, false, List}
+use Rattle.ecma_kind.specs.declared.kind.Kind.{Kind}
+use Rattle.ecma_kind.specs.declared.kind.Kind.TheVariants as kind
 use Rattle.ecma_kind.specs.declared.shapes.Sort.TheVariants as sort
 use Rattle.ecma_tree.specs.Sorted.{HasSort}
 use Rattle.ecma_tree.specs.declared.node.Node.{Node}
@@ -13,6 +15,7 @@ use Rattle.ecma_hygiene_fits.specs.Placed.{NoneMade}
 use Rattle.ecma_hygiene_fits.specs.Spelled.{NoneLong}
 use Rattle.ecma_plain.specs.Plain.{HasUtf8Texts}
 use Rattle.ecma_plain.specs.Writable.{IsWritable}
+use Rattle.ecma_rules.specs.Children.{kind_of}
 use Rattle.ecma_rules.specs.Members.{has_second_constructor}
 use Rattle.ecma_lower_enums.specs.Lowered.{known_enums}
 use Rattle.ecma_lower_enums.specs.Writing.{with_enums_written}
@@ -50,6 +53,17 @@ WritingEnumsKeepsNamesShort = (may_change keeps_constants : Bool) (members : Lis
 -- each is that of a declaration, with its place and its context: none is made
 abbrev pub WritingEnumsMakesNoNames : Type 0
 WritingEnumsMakesNoNames = (may_change keeps_constants : Bool) (members : List TsEnumRecordEntry) (tree : Node) → NoneMade tree → NoneMade (written may_change keeps_constants members tree)
+
+-- an identifier of such a text and context
+abbrev pub is_such : (List ℕ → ℕ → Bool) → Kind → Bool
+is_such test (kind.Ident sym ctxt optional) = test sym ctxt
+is_such test _ = false
+
+-- each has the text and the context of one that stood there: what no identifier of the tree is, none that is written is
+abbrev pub WritingEnumsKeepsIds : Type 0
+WritingEnumsKeepsIds =
+    (may_change keeps_constants : Bool) (members : List TsEnumRecordEntry) (tree : Node) (test : List ℕ → ℕ → Bool) → NoneFails (λ w n. is_such test (kind_of n)) tree
+    → NoneFails (λ w n. is_such test (kind_of n)) (written may_change keeps_constants members tree)
 
 -- ---- texts
 

@@ -1,0 +1,13 @@
+mod Walks
+mod Making
+mod Passing
+mod Roles
+mod Standing
+mod Tests
+mod Usable
+mod Agreeing
+mod Names
+mod Fitting
+mod Held
+mod Fit
+mod Plain
