@@ -1,5 +1,5 @@
 -- A module that fits, with its enums written, fits.
-use Rattle.std.proofs.Common.{◌≡◌, Bool, false, ◌||◌, List, None, refl}
+use Rattle.std.proofs.Common.{◌≡◌, Bool, List, None, refl}
 use Rattle.ecma_kind.specs.declared.shapes.Sort.TheVariants as sort
 use Rattle.ecma_tree.specs.Sorted.{one}
 use Rattle.ecma_tree.specs.declared.node.Node.{Node}
@@ -9,8 +9,6 @@ use Rattle.ecma_enums.specs.declared.record.TsEnumRecordEntry.{TsEnumRecordEntry
 use Rattle.ecma_fits.specs.declared.unfit.Where.{Where}
 use Rattle.ecma_fits.specs.Counts.{is_short}
 use Rattle.ecma_fits.specs.Fitting.{Fits, NoneFails, at_top, breaks_rule, is_misspelled}
-use Rattle.ecma_fits.specs.Roles.{is_out_of_role}
-use Rattle.ecma_fits.specs.Strays.{is_stray_target}
 use Rattle.ecma_fits.proofs.Clauses.{either, either_none, less, out_of_role, stray_target}
 use Rattle.ecma_lower_enums.specs.declared.known.KnownEnums.{KnownEnums}
 use Rattle.ecma_lower_enums.specs.declared.place.Place.TheVariants as place
@@ -24,7 +22,7 @@ use Rattle.ecma_lower_enums_sources.proofs.SortsKept.{written_enums_are_sorted}
 use Rattle.ecma_lower_enums_sources.proofs.Trees.{fails-everywhere-not}
 use Rattle.ecma_lower_enums_fits.specs.Laws.{WrittenEnumsFit}
 use Rattle.ecma_lower_enums_fits.specs.Premises.{NoneNamesArguments, names_arguments}
-use Rattle.ecma_lower_enums_fits.proofs.Agreeing.{Agree, Pass, clauses, inside, unfit}
+use Rattle.ecma_lower_enums_fits.proofs.Agreeing.{Agree, clauses, inside, unfit}
 use Rattle.ecma_lower_enums_fits.proofs.Fitting.{kinds, owed, quiet, seats}
 use Rattle.ecma_lower_enums_fits.proofs.Held as held
 use Rattle.ecma_lower_enums_fits.proofs.Names.{Sound, facts, sound}

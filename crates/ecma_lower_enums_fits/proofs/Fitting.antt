@@ -1,22 +1,19 @@
 -- No clause of what fits that asks where a node stands fails in what is written, where none did.
-use Rattle.std.proofs.Common.{◌≡◌, ◌∙◌, ℕ, suc, Bool, true, false, not, cond, codes, bytes_eq, ◌&&◌, ◌||◌, ◌==◌, List, [], ◌∷◌, length, Option, Some, None, refl, sym, ap, ap₂, subst, slice_get}
+use Rattle.std.proofs.Common.{◌≡◌, ◌∙◌, ℕ, Bool, true, false, not, cond, codes, bytes_eq, ◌&&◌, ◌||◌, List, Some, None, refl, sym, ap, ap₂, subst}
 use Rattle.std.specs.List.{list_any}
 use Rattle.ecma_lex.specs.Keys.{is_reserved}
-use Rattle.ecma_lex.specs.Tokens.{key}
-use Rattle.ecma_kind.specs.Sorts.{belongs}
 use Rattle.ecma_kind.specs.declared.ident.Ident.{Ident}
 use Rattle.ecma_kind.specs.declared.kind.Kind.{Kind}
 use Rattle.ecma_kind.specs.declared.kind.Kind.TheVariants as kind
 use Rattle.ecma_kind.specs.declared.operators.AssignOp.TheVariants.{Assign}
 use Rattle.ecma_kind.specs.declared.operators.BinaryOp.TheVariants as binary
-use Rattle.ecma_kind.specs.declared.operators.UnaryOp.{UnaryOp}
 use Rattle.ecma_kind.specs.declared.operators.VarDeclKind.{VarDeclKind}
 use Rattle.ecma_kind.specs.declared.shapes.Shape.{Shape}
 use Rattle.ecma_kind.specs.declared.shapes.Sort.TheVariants as sort
 use Rattle.ecma_number.specs.declared.js_number.JsNumber.{JsNumber}
-use Rattle.ecma_tree.specs.Sorted.{HasShape, allows, many, maybe, one}
+use Rattle.ecma_tree.specs.Sorted.{HasShape, allows, many, maybe}
 use Rattle.ecma_tree.specs.declared.node.Node.{Node}
-use Rattle.ecma_leaves.specs.Words.{is_natural, is_one, is_spelled}
+use Rattle.ecma_leaves.specs.Words.{is_natural, is_spelled}
 use Rattle.ecma_rules.specs.declared.standing.Standing.{Standing}
 use Rattle.ecma_rules.specs.declared.standing.Standing.TheVariants as standing
 use Rattle.ecma_rules.specs.declared.target.Target.{Target}
@@ -24,7 +21,7 @@ use Rattle.ecma_rules.specs.declared.target.Target.TheVariants as target
 use Rattle.ecma_rules.specs.Children.{child_holds, child_is, items_at, kind_of}
 use Rattle.ecma_rules.specs.Lists.{is_head, is_item, is_one_without_value, is_rest, is_rest_pattern, last_by}
 use Rattle.ecma_rules.specs.Members.{behind_first, is_declaring, is_plain_parameter, is_property_kind, is_special_by, is_this_parameter, misfits_by, misplaces_this_by}
-use Rattle.ecma_rules.specs.Statements.{is_body, is_declaration, is_exported, is_lexical, is_text}
+use Rattle.ecma_rules.specs.Statements.{is_body, is_declaration, is_exported, is_text}
 use Rattle.ecma_rules.specs.Surroundings.{standing_by}
 use Rattle.ecma_rules.specs.Targets.{in_list, in_literal, in_value, is_simple_target, is_spread, is_variables, target_in}
 use Rattle.ecma_fits.specs.declared.role.Role.{Role}
@@ -35,16 +32,14 @@ use Rattle.ecma_fits.specs.Roles.{bound_name_of, by as either_role, in_default, 
 use Rattle.ecma_fits.specs.Strays.{arguments_in}
 use Rattle.ecma_strip_fits.proofs.Walk.{shape_parts}
 use Rattle.ecma_lower_enums.specs.declared.known.KnownEnums.{KnownEnums}
-use Rattle.ecma_lower_enums.specs.declared.place.Place.{Place}
 use Rattle.ecma_lower_enums.specs.declared.place.Place.TheVariants as place
 use Rattle.ecma_lower_enums.specs.Writing.{is_enum_kind}
-use Rattle.ecma_lower_enums_sources.proofs.Relation.{is_target, suits}
 use Rattle.ecma_lower_enums_sources.proofs.Suiting.{no}
 use Rattle.ecma_lower_enums_fits.proofs.Agreeing.{Agree, all-fit, breaks, child-agrees, child-fits, inside, left-passes, list-agrees, list-fits, or-no, out_of_role, stray, unfit}
 use Rattle.ecma_lower_enums_fits.proofs.Making.{Kinds, Quiet, Seats, in_body, is_frame, is_read_frame}
 use Rattle.ecma_lower_enums_fits.proofs.Usable.{IsKey, IsUsable}
 use Rattle.ecma_lower_enums_fits.proofs.Walks.{and-no}
-use Rattle.ecma_lower_enums_fits.proofs.Passing.{Owed, TakesMember}
+use Rattle.ecma_lower_enums_fits.proofs.Passing.{Owed}
 use Rattle.ecma_lower_enums_fits.proofs.Roles.{free-is, in-sort, is_free_role, is_open_role, short-role, target-member}
 use Rattle.ecma_lower_enums_fits.proofs.Standing.{is_free, is_plain, plain-parts}
 

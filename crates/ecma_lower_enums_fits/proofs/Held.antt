@@ -1,13 +1,12 @@
 -- What belongs to nothing inside an enum's initialiser or a namespace: nothing does in what is written, where nothing did.
-use Rattle.std.proofs.Common.{◌≡◌, ◌∙◌, ℕ, zero, suc, Bool, true, false, not, cond, codes, bytes_eq, ◌&&◌, ◌||◌, ◌==◌, List, [], ◌∷◌, length, Option, Some, None, refl, sym, ap, ap₂, subst, slice_get}
+use Rattle.std.proofs.Common.{◌≡◌, ◌∙◌, ℕ, Bool, true, false, not, cond, codes, bytes_eq, ◌&&◌, ◌==◌, List, [], length, Option, Some, None, refl, sym, ap, ap₂, subst, slice_get}
 use Rattle.std.specs.List.{list_any}
 use Rattle.ecma_kind.specs.declared.ident.Ident.{Ident}
 use Rattle.ecma_kind.specs.declared.kind.Kind.{Kind}
 use Rattle.ecma_kind.specs.declared.kind.Kind.TheVariants as kind
 use Rattle.ecma_kind.specs.declared.shapes.Shape.{Shape}
-use Rattle.ecma_kind.specs.declared.shapes.Sort.TheVariants as sort
-use Rattle.ecma_tree.specs.Sorted.{HasShape, child_shapes, is_list, item_shape, many, maybe, one}
-use Rattle.ecma_tree.specs.declared.node.Node.{Node, out-Node}
+use Rattle.ecma_tree.specs.Sorted.{child_shapes, item_shape}
+use Rattle.ecma_tree.specs.declared.node.Node.{Node}
 use Rattle.ecma_rules.specs.declared.strays.Strays.{Strays}
 use Rattle.ecma_rules.specs.Children.{kind_of}
 use Rattle.ecma_rules.specs.Jumps.{Held, ends_jumps, held_behind, is_stray_in, is_stray_jump, label_of, labels_behind, not_held, own_label, text_by, text_of}
@@ -16,12 +15,11 @@ use Rattle.ecma_lower_enums.specs.declared.known.KnownEnums.{KnownEnums}
 use Rattle.ecma_lower_enums.specs.declared.place.Place.{Place}
 use Rattle.ecma_lower_enums.specs.declared.place.Place.TheVariants as place
 use Rattle.ecma_lower_enums.specs.Places.{place_in}
-use Rattle.ecma_lower_enums.specs.Writing.{is_enum_kind}
 use Rattle.ecma_lower_enums_sources.proofs.Alike.{other-kind}
 use Rattle.ecma_lower_enums_sources.proofs.Relation.{Ones, Stands, children_of, is_members}
 use Rattle.ecma_lower_enums_sources.proofs.Relation as relation
 use Rattle.ecma_lower_enums_sources.proofs.Suiting.{child-calm, no}
-use Rattle.ecma_lower_enums_fits.proofs.Making.{Kinds, Quiet, Seats, in_body, is_frame, is_read_frame}
+use Rattle.ecma_lower_enums_fits.proofs.Making.{Kinds, Quiet, Seats, is_frame, is_read_frame}
 use Rattle.ecma_lower_enums_fits.proofs.Passing.{Owed}
 use Rattle.ecma_lower_enums_fits.proofs.Usable.{IsKey, IsUsable}
 use Rattle.ecma_lower_enums_fits.proofs.Walks.{Passes, and-no, eased}

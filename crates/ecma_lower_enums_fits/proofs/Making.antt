@@ -1,7 +1,6 @@
 -- A walk that tells nothing of what an enum has tells nothing of what is written for it: what a walk owes for that.
-use Rattle.std.proofs.Common.{◌≡◌, ◌∙◌, ℕ, suc, Bool, true, false, not, cond, ◌&&◌, ◌==◌, List, [], ◌∷◌, ◌++◌, Option, Some, None, refl, sym, ap, subst, slice_get, nat_lt, arith}
+use Rattle.std.proofs.Common.{◌≡◌, ◌∙◌, ℕ, suc, Bool, true, false, not, cond, ◌&&◌, ◌==◌, List, [], ◌∷◌, Option, Some, None, refl, sym, ap, subst, slice_get, nat_lt, arith}
 use Rattle.std.specs.List.{list_any}
-use Rattle.std.specs.Option.{option_and_then}
 use Rattle.std.specs.Prelude.{ℤ, pos, negsuc, int_lt, if◌then◌else◌}
 use Rattle.ecma_kind.specs.declared.ident.Ident.{Ident}
 use Rattle.ecma_kind.specs.declared.kind.Kind.{Kind}
@@ -26,7 +25,6 @@ use Rattle.ecma_rules.specs.Members.{behind_first, is_this_parameter}
 use Rattle.ecma_rules.specs.Targets.{is_simple_target, simple_step}
 use Rattle.ecma_fits.specs.Counts.{is_empty}
 use Rattle.ecma_utils.specs.Expressions.{assign_of, call_of, computed_member_of, key_of}
-use Rattle.ecma_enums.specs.KnownReads.{known_read}
 use Rattle.ecma_enums.specs.Values.{expression, minus, number_expression, numeral, one as one_number, text_literal, undefined, whole_expression, zero as zero_number}
 use Rattle.ecma_enums.specs.declared.value.TsEnumRecordValue.{TsEnumRecordValue}
 use Rattle.ecma_enums.specs.declared.value.TsEnumRecordValue.TheVariants as value

@@ -1,7 +1,6 @@
 -- The names that are written, and the keys: each is one of a tree that fits.
-use Rattle.std.proofs.Common.{◌≡◌, ◌∙◌, ℕ, suc, Bool, true, false, not, ◌&&◌, codes, bytes_eq, List, [], ◌∷◌, map, Option, Some, None, refl, sym, ap, subst, slice_get}
-use Rattle.std.specs.Option.{option_and_then, option_map}
-use Rattle.ecma_lex.specs.Keys.{is_reserved}
+use Rattle.std.proofs.Common.{◌≡◌, ◌∙◌, ℕ, suc, Bool, true, false, not, ◌&&◌, codes, List, [], ◌∷◌, map, Option, Some, None, refl, sym, ap, subst, slice_get}
+use Rattle.std.specs.Option.{option_map}
 use Rattle.ecma_lex.specs.Tokens.{key}
 use Rattle.ecma_kind.specs.declared.ident.Ident.{Ident}
 use Rattle.ecma_kind.specs.declared.kind.Kind.{Kind}

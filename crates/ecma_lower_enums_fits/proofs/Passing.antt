@@ -1,5 +1,5 @@
 -- A walk that tells nothing of a tree tells nothing of what is written of it: what a walk owes for that.
-use Rattle.std.proofs.Common.{◌≡◌, ◌∙◌, ℕ, suc, Bool, true, false, cond, List, [], ◌∷◌, ◌++◌, length, Option, Some, None, refl, sym, ap, subst, slice_get}
+use Rattle.std.proofs.Common.{◌≡◌, ◌∙◌, ℕ, suc, Bool, true, false, cond, List, [], ◌∷◌, length, Option, Some, None, refl, sym, ap, subst, slice_get}
 use Rattle.ecma_kind.specs.declared.ident.Ident.{Ident}
 use Rattle.ecma_kind.specs.declared.kind.Kind.{Kind}
 use Rattle.ecma_kind.specs.declared.kind.Kind.TheVariants as kind
@@ -9,14 +9,13 @@ use Rattle.ecma_kind.specs.declared.shapes.Sort.TheVariants as sort
 use Rattle.ecma_kind.specs.declared.span.Span.{Span}
 use Rattle.ecma_tree.specs.Idents.{ident_node}
 use Rattle.ecma_tree.specs.Nodes.{dummy_span, node_of}
-use Rattle.ecma_tree.specs.Sorted.{HasShape, allows, child_shapes, is_absent, is_list, item_shape, many, maybe, one}
+use Rattle.ecma_tree.specs.Sorted.{HasShape, child_shapes, is_absent, is_list, item_shape, many, maybe, one}
 use Rattle.ecma_tree.specs.declared.node.Node.{Node, out-Node}
 use Rattle.ecma_rules.specs.Children.{child_is, kind_of, of_kind}
 use Rattle.ecma_rules.specs.Lists.{is_rest_pattern}
 use Rattle.ecma_rules.specs.Targets.{is_simple_target}
 use Rattle.ecma_strip_fits.proofs.Walk.{shape_parts}
 use Rattle.ecma_utils.specs.Expressions.{key_of}
-use Rattle.ecma_enums.specs.Values.{expression}
 use Rattle.ecma_lower_enums.specs.declared.known.KnownEnums.{KnownEnums}
 use Rattle.ecma_lower_enums.specs.declared.place.Place.{Place}
 use Rattle.ecma_lower_enums.specs.declared.place.Place.TheVariants as place
@@ -185,7 +184,8 @@ module _ (enums : KnownEnums) (N : Ident → Type 0) (K : List ℕ → Type 0) (
           where-weaker A test inside (Holding A test inside kinds m) (agree (place.Item at_top exported) t w)
           (λ a q. (
             owed.item at_top exported t w a q,
-            λ x1 x2 x3 x4 x5. stands-pass o refl (inside w (kind_of c) c 1) (in_body A test inside kinds a x1 x2 x3 x4 x5) (owed.members at_top exported (skips enums part) t w a c is q x1 x2 x3 x4 x5) (child-pass w c list (kind_of c) 1 refl h get),
+            λ x1 x2 x3 x4 x5. stands-pass o refl (inside w (kind_of c) c 1) (in_body A test inside kinds a x1 x2 x3 x4 x5)
+                (owed.members at_top exported (skips enums part) t w a c is q x1 x2 x3 x4 x5) (child-pass w c list (kind_of c) 1 refl h get),
           ))
           (part_statements enums span part around m)
           (part-pass A test inside kinds N K keyed seats quiet enums span part around m n (if-named around.name x))

@@ -1,14 +1,13 @@
 -- No name is bound with a type round it in what is written, where none was.
-use Rattle.std.proofs.Common.{◌≡◌, ◌∙◌, ◌⊎◌, inl, inr, ℕ, suc, Bool, true, false, cond, ◌&&◌, ◌||◌, ◌==◌, List, [], ◌∷◌, length, map, Option, Some, None, refl, sym, ap, ap₂, subst, slice_get}
+use Rattle.std.proofs.Common.{◌≡◌, ◌∙◌, ◌⊎◌, inl, inr, ℕ, Bool, true, false, cond, ◌&&◌, ◌||◌, ◌==◌, List, map, Some, None, refl, sym, ap}
 use Rattle.ecma_bind.specs.Binding.{binds, is_name_under_types, names_step}
 use Rattle.ecma_kind.specs.Shapes.{field_shapes}
 use Rattle.ecma_kind.specs.Sorts.{is_type_wrapper}
-use Rattle.ecma_kind.specs.declared.ident.Ident.{Ident}
 use Rattle.ecma_kind.specs.declared.kind.Kind.{Kind}
 use Rattle.ecma_kind.specs.declared.kind.Kind.TheVariants as kind
 use Rattle.ecma_kind.specs.declared.shapes.Shape.{Shape}
 use Rattle.ecma_kind.specs.declared.shapes.Sort.TheVariants as sort
-use Rattle.ecma_tree.specs.Sorted.{child_shapes, is_list, item_shape, many, maybe, one}
+use Rattle.ecma_tree.specs.Sorted.{is_list, many, maybe, one}
 use Rattle.ecma_tree.specs.declared.node.Node.{Node, fold_out-Node}
 use Rattle.ecma_rules.specs.Children.{kind_of}
 use Rattle.ecma_rules.specs.Targets.{first_is}
@@ -17,7 +16,6 @@ use Rattle.ecma_fits.specs.declared.role.Role.TheVariants as role
 use Rattle.ecma_fits.specs.declared.unfit.Where.{Where}
 use Rattle.ecma_fits.specs.Fitting.{at_top}
 use Rattle.ecma_fits.specs.Roles.{in_list, is_name, role_in}
-use Rattle.ecma_enums.specs.declared.record.TsEnumRecordEntry.{TsEnumRecordEntry}
 use Rattle.ecma_lower_enums.specs.declared.known.KnownEnums.{KnownEnums}
 use Rattle.ecma_lower_enums.specs.declared.place.Place.{Place}
 use Rattle.ecma_lower_enums.specs.declared.place.Place.TheVariants as place

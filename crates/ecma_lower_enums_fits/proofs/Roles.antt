@@ -1,9 +1,9 @@
 -- Which roles children have in their places: where something is assigned to is a target, and where names are declared is none.
-use Rattle.std.proofs.Common.{◌≡◌, ◌∙◌, ℕ, zero, suc, Bool, true, false, not, cond, ◌&&◌, ◌||◌, ◌==◌, List, [], ◌∷◌, map, length, Option, Some, None, refl, sym, ap, subst, slice_get}
+use Rattle.std.proofs.Common.{◌≡◌, ◌∙◌, ℕ, zero, suc, Bool, true, false, not, cond, ◌&&◌, ◌||◌, ◌==◌, List, [], ◌∷◌, map, Some, None, refl, sym, ap, subst, slice_get}
 use Rattle.std.specs.List.{list_all}
 use Rattle.std.specs.Option.{option_map_or}
 use Rattle.ecma_kind.specs.Shapes.{field_shapes}
-use Rattle.ecma_kind.specs.Sorts.{belongs, is_type_wrapper}
+use Rattle.ecma_kind.specs.Sorts.{belongs}
 use Rattle.ecma_kind.specs.declared.kind.Kind.{Kind}
 use Rattle.ecma_kind.specs.declared.kind.Kind.TheVariants as kind
 use Rattle.ecma_kind.specs.declared.operators.AssignOp.{AssignOp}
@@ -16,7 +16,7 @@ use Rattle.ecma_kind.specs.declared.shapes.FieldShape.{FieldShape}
 use Rattle.ecma_kind.specs.declared.shapes.Shape.{Shape}
 use Rattle.ecma_kind.specs.declared.shapes.Sort.{Sort}
 use Rattle.ecma_kind.specs.declared.shapes.Sort.TheVariants as sort
-use Rattle.ecma_tree.specs.Sorted.{allows, allows_by, child_shapes, is_absent, is_list, item_shape, many, maybe, one, with_holes}
+use Rattle.ecma_tree.specs.Sorted.{allows, allows_by, child_shapes, is_absent, is_list, item_shape, many, one, with_holes}
 use Rattle.ecma_rules.specs.Targets.{is_plain}
 use Rattle.ecma_fits.specs.declared.role.Role.{Role}
 use Rattle.ecma_fits.specs.declared.role.Role.TheVariants as role
@@ -25,7 +25,7 @@ use Rattle.ecma_lower_enums.specs.declared.place.Place.{Place}
 use Rattle.ecma_lower_enums.specs.declared.place.Place.TheVariants as place
 use Rattle.ecma_lower_enums.specs.Places.{exported_place, inside_place, operand_place, pattern_place, place_in, place_of, statements}
 use Rattle.ecma_lower_enums_sources.proofs.Relation.{suits, suits_sort}
-use Rattle.ecma_lower_enums_sources.proofs.Suiting.{belongs-by, no, some-same, sort-suits, wrapper-suits}
+use Rattle.ecma_lower_enums_sources.proofs.Suiting.{belongs-by, no, some-same, sort-suits}
 
 none-some : {X Y : Type 0} (x : X) → None ≡ Some x → Y
 none-some x e = absurd (by e)
@@ -376,7 +376,8 @@ fields-role : (p : Place) (fields : List FieldShape) → list_all (λ (f : Field
     → slice_get (map (λ child. child.shape) fields) i ≡ Some u → has_role (option_map_or (λ (f : FieldShape). place_of p f.shape.sort) (slice_get fields i) place.Other) u role.Free ≡ true
 fields-role p [] h i u at = none-some u at
 fields-role p (f ∷ fs) h zero u at =
-    subst (λ (z : Shape). has_role (place_of p f.shape.sort) z role.Free ≡ true) (some-same at) (sort-role p f.shape (and-parts (not (is_pattern_sort f.shape.sort)) (list_all (λ (g : FieldShape). not (is_pattern_sort g.shape.sort)) fs) h).0)
+    subst (λ (z : Shape). has_role (place_of p f.shape.sort) z role.Free ≡ true) (some-same at)
+    (sort-role p f.shape (and-parts (not (is_pattern_sort f.shape.sort)) (list_all (λ (g : FieldShape). not (is_pattern_sort g.shape.sort)) fs) h).0)
 fields-role p (f ∷ fs) h (suc i) u at = fields-role p fs (and-parts (not (is_pattern_sort f.shape.sort)) (list_all (λ (g : FieldShape). not (is_pattern_sort g.shape.sort)) fs) h).1 i u at
 
 -- in a place that is none of a target

@@ -1,6 +1,5 @@
 -- How children stand in their places: a statement of a list stands plainly, and no expression that is read stands as a name that is exported.
-use Rattle.std.proofs.Common.{◌≡◌, ◌∙◌, ℕ, zero, suc, Bool, true, false, not, cond, ◌&&◌, ◌||◌, ◌==◌, List, [], ◌∷◌, length, Option, Some, None, refl, sym, ap, subst, slice_get}
-use Rattle.std.specs.List.{list_all}
+use Rattle.std.proofs.Common.{◌≡◌, ℕ, zero, suc, Bool, true, false, not, cond, ◌&&◌, ◌==◌, List, [], ◌∷◌, Some, None, refl, sym, ap, slice_get}
 use Rattle.std.specs.Option.{option_map_or}
 use Rattle.ecma_kind.specs.Shapes.{field_shapes}
 use Rattle.ecma_kind.specs.Sorts.{belongs}
@@ -10,12 +9,11 @@ use Rattle.ecma_kind.specs.declared.shapes.FieldShape.{FieldShape}
 use Rattle.ecma_kind.specs.declared.shapes.Shape.{Shape}
 use Rattle.ecma_kind.specs.declared.shapes.Sort.{Sort}
 use Rattle.ecma_kind.specs.declared.shapes.Sort.TheVariants as sort
-use Rattle.ecma_tree.specs.Sorted.{allows, child_shapes, is_absent, is_list, many, maybe, one}
+use Rattle.ecma_tree.specs.Sorted.{allows, child_shapes, is_absent, is_list}
 use Rattle.ecma_rules.specs.declared.standing.Standing.{Standing}
 use Rattle.ecma_rules.specs.declared.standing.Standing.TheVariants as standing
 use Rattle.ecma_rules.specs.declared.target.Target.{Target}
 use Rattle.ecma_rules.specs.declared.target.Target.TheVariants as target
-use Rattle.ecma_rules.specs.Lists.{is_head}
 use Rattle.ecma_rules.specs.Statements.{is_exported}
 use Rattle.ecma_rules.specs.Surroundings.{in_branch, standing_by}
 use Rattle.ecma_rules.specs.Targets.{in_list, target_in}
@@ -23,7 +21,7 @@ use Rattle.ecma_lower_enums.specs.declared.place.Place.{Place}
 use Rattle.ecma_lower_enums.specs.declared.place.Place.TheVariants as place
 use Rattle.ecma_lower_enums.specs.Places.{exported_place, inside_place, is_several, operand_place, pattern_place, place_in, place_of, statements}
 use Rattle.ecma_lower_enums_sources.proofs.Relation.{suits, suits_sort}
-use Rattle.ecma_lower_enums_sources.proofs.Suiting.{belongs-by, expression-single, no, some-same, sort-suits, wrapper-suits}
+use Rattle.ecma_lower_enums_sources.proofs.Suiting.{belongs-by, no, sort-suits}
 
 -- ---- statements
 

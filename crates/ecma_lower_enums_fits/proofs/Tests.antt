@@ -1,5 +1,5 @@
 -- What the grammar and the context rules ask of a node whose kind stays, beyond the clauses that are known, is the same of what is written of it.
-use Rattle.std.proofs.Common.{◌≡◌, ◌∙◌, ◌⊎◌, inl, inr, ℕ, zero, suc, Bool, true, false, not, ◌&&◌, ◌||◌, ◌==◌, ◌+◌, List, [], ◌∷◌, length, codes, Option, Some, None, refl, sym, ap, ap₂, subst, slice_get, nat_lt, map}
+use Rattle.std.proofs.Common.{◌≡◌, ◌∙◌, ℕ, zero, suc, Bool, true, false, not, ◌&&◌, ◌||◌, ◌==◌, ◌+◌, List, [], ◌∷◌, length, codes, Some, refl, sym, ap, ap₂, subst, slice_get, nat_lt, map}
 use Rattle.std.specs.List.{list_all, list_any}
 use Rattle.ecma_kind.specs.Sorts.{belongs}
 use Rattle.ecma_kind.specs.declared.ident.Ident.{Ident}
@@ -8,18 +8,17 @@ use Rattle.ecma_kind.specs.declared.kind.Kind.TheVariants as kind
 use Rattle.ecma_kind.specs.declared.operators.MethodKind.{MethodKind}
 use Rattle.ecma_kind.specs.declared.operators.MethodKind.TheVariants.{Method, Getter, Setter}
 use Rattle.ecma_kind.specs.declared.shapes.Shape.{Shape}
-use Rattle.ecma_kind.specs.declared.shapes.Sort.{Sort}
 use Rattle.ecma_kind.specs.declared.shapes.Sort.TheVariants as sort
 use Rattle.ecma_tree.specs.Idents.{ident_node}
 use Rattle.ecma_tree.specs.Laws.{HaveShapes}
 use Rattle.ecma_tree.specs.Nodes.{dummy_span}
-use Rattle.ecma_tree.specs.Sorted.{HasShape, allows, child_shapes, is_list, item_shape, many, maybe, one}
-use Rattle.ecma_tree.specs.declared.node.Node.{Node, fold-Node, fold_out-Node}
-use Rattle.ecma_rules.specs.Children.{child_holds, child_is, children_of as items_of, has_child, holds_of, is_named, is_present, items_at, kind_of, of_kind}
+use Rattle.ecma_tree.specs.Sorted.{HasShape, allows, child_shapes, is_list, many, maybe, one}
+use Rattle.ecma_tree.specs.declared.node.Node.{Node, fold_out-Node}
+use Rattle.ecma_rules.specs.Children.{child_holds, child_is, children_of as items_of, has_child, holds_of, is_named, items_at, kind_of, of_kind}
 use Rattle.ecma_rules.specs.Lists.{is_one_without_value, is_rest_pattern}
-use Rattle.ecma_rules.specs.Members.{behind_first, fits_kind, has_body, is_binding_name, is_constructor_key, is_empty_list, is_method, is_named_pattern, is_one_parameter, is_plain_parameter, is_property_kind, is_special_by, is_special_function, is_this_by, is_this_parameter, is_this_pattern, misfits_by, misplaces_this_by, parameters_of, takes_not_one, takes_one}
+use Rattle.ecma_rules.specs.Members.{behind_first, fits_kind, has_body, is_binding_name, is_constructor_key, is_empty_list, is_method, is_named_pattern, is_one_parameter, is_plain_parameter, is_property_kind, is_special_by, is_special_function, is_this_by, is_this_parameter, is_this_pattern, misfits_by, misplaces_this_by, takes_not_one, takes_one}
 use Rattle.ecma_rules.specs.Targets.{first_is, is_key_value, is_plain_target, is_simple_target, is_variables, is_wrapper, simple_step}
-use Rattle.ecma_fits.specs.Counts.{are, are_exports, are_imports, are_stars_or_names, ends_once, ends_template, has_attributes_at, holds_attributes, is_attribute, is_attribute_key, is_default_import, is_empty, is_full_by, is_named_export, is_named_import, is_star_export, is_star_import, is_star_of, is_text, is_whole_template}
+use Rattle.ecma_fits.specs.Counts.{are, are_exports, are_imports, are_stars_or_names, ends_once, ends_template, has_attributes_at, holds_attributes, is_attribute, is_attribute_key, is_default_import, is_empty, is_full_by, is_named_export, is_named_import, is_star_export, is_star_import, is_star_of, is_text}
 use Rattle.ecma_fits.specs.Roles.{is_bound_name}
 use Rattle.ecma_strip_fits.proofs.Walk.{shape_parts}
 use Rattle.ecma_utils.specs.Expressions.{key_of}
@@ -460,7 +459,8 @@ module _ (enums : KnownEnums) (N : Ident → Type 0) (K : List ℕ → Type 0) w
     unfolding is_full_by place_in
     full-so kind.Tpl a b have os h =
         ap₂ (λ x y. x && y)
-        (ap₂ (λ x y. x == y + 1) (both-length enums N K (items-at-both enums N K os have 1 (many sort.TplElement) place.Other refl refl refl (λ k g. g))) (both-length enums N K (items-at-both enums N K os have 0 (many sort.Expr) place.Read refl refl refl (λ k g. g))))
+        (ap₂ (λ x y. x == y + 1) (both-length enums N K (items-at-both enums N K os have 1 (many sort.TplElement) place.Other refl refl refl (λ k g. g)))
+        (both-length enums N K (items-at-both enums N K os have 0 (many sort.Expr) place.Read refl refl refl (λ k g. g))))
         (ends-same (items-at-both enums N K os have 1 (many sort.TplElement) place.Other refl refl refl (λ k g. g)))
         ∙ h
     full-so kind.SeqExpr a b have os h = ap (nat_lt 1) (ones-length enums N K os) ∙ h

@@ -11,9 +11,12 @@ use Rattle.ecma_lower_enums_fits.specs.Premises.{NoneNamesArguments}
 
 -- where these members are known; enums may change or not, and members of `const` enums are kept or not
 abbrev pub WrittenEnumsFit : Type 0
-WrittenEnumsFit = (may_change keeps_constants : Bool) (members : List TsEnumRecordEntry) (tree : Node) → Fits tree → NoneNamesArguments tree → Fits (written may_change keeps_constants members tree)
+WrittenEnumsFit =
+    (may_change keeps_constants : Bool) (members : List TsEnumRecordEntry) (tree : Node) →
+    Fits tree → NoneNamesArguments tree → Fits (written may_change keeps_constants members tree)
 
 -- no name is bound with a type round it that was not
 abbrev pub WritingEnumsKeepsPlainTargets : Type 0
 WritingEnumsKeepsPlainTargets =
-    (may_change keeps_constants : Bool) (members : List TsEnumRecordEntry) (tree : Node) → HasSort sort.Module tree → HasPlainTargets tree → HasPlainTargets (written may_change keeps_constants members tree)
+    (may_change keeps_constants : Bool) (members : List TsEnumRecordEntry) (tree : Node) →
+    HasSort sort.Module tree → HasPlainTargets tree → HasPlainTargets (written may_change keeps_constants members tree)

@@ -18,8 +18,9 @@ use Rattle.ecma_lower_enums.specs.declared.known.KnownEnums.{KnownEnums}
 use Rattle.ecma_lower_enums.specs.declared.place.Place.{Place}
 use Rattle.ecma_lower_enums.specs.Lowered.{known_enums}
 use Rattle.ecma_lower_enums.specs.Places.{place_in}
-use Rattle.ecma_lower_enums_sources.specs.Laws.{WrittenEnumsKeepClauses, written}
+use Rattle.ecma_lower_enums_sources.specs.Laws.{WritingEnumsAddsNoForms, WrittenEnumsKeepClauses, is_written_kind, written}
 use Rattle.ecma_lower_enums_sources.proofs.Clauses.{is_made, stands-none}
+use Rattle.ecma_lower_enums_sources.proofs.Pieces.{is_frame}
 use Rattle.ecma_lower_enums_sources.proofs.Relating.{module-written}
 use Rattle.ecma_lower_enums_sources.proofs.Relation.{Ones, children_of}
 use Rattle.ecma_lower_enums_sources.proofs.SortsKept.{K, N, Q, facts}
@@ -74,3 +75,40 @@ written_enums_keep_clauses may_change keeps_constants members tree sorted = reco
   members = λ h. keeps may_change keeps_constants members tree sorted is_misread_by misread-quiet (λ enums p t k a b have os. misread-same enums N K p t k a b os) h;
   constructors = λ h. keeps may_change keeps_constants members tree sorted second second-quiet (λ enums p t k a b have os. second-same enums N K p t k a b have os) h;
 }
+
+-- ---- forms
+
+frame-written : (k : Kind) → is_frame k ≡ true → is_written_kind k ≡ true
+frame-written kind.Absent h = refl
+frame-written kind.List h = refl
+frame-written kind.MemberExpr h = refl
+frame-written kind.ComputedPropName h = refl
+frame-written (kind.AssignExpr op) h = refl
+frame-written (kind.BinExpr op) h = refl
+frame-written kind.ObjectLit h = refl
+frame-written kind.CallExpr h = refl
+frame-written kind.FnExpr h = refl
+frame-written (kind.Function is_generator is_async) h = refl
+frame-written kind.Param h = refl
+frame-written kind.BlockStmt h = refl
+frame-written kind.ExprStmt h = refl
+frame-written (kind.VarDecl word declare) h = refl
+frame-written (kind.VarDeclarator definite) h = refl
+frame-written kind.BindingIdent h = refl
+frame-written kind.ExportDecl h = refl
+frame-written kind.KeyValueProp h = refl
+frame-written kind.KeyValuePatProp h = refl
+frame-written kind.AssignPat h = refl
+frame-written _ h = no h
+
+made-written : (k : Kind) → is_made k ≡ true → is_written_kind k ≡ true
+made-written (kind.Ident sym ctxt optional) h = refl
+made-written (kind.IdentName sym) h = refl
+made-written (kind.Str text raw) h = refl
+made-written (kind.Number n raw) h = refl
+made-written (kind.UnaryExpr op) h = refl
+made-written k h = frame-written k h
+
+pub writing_enums_adds_no_forms : WritingEnumsAddsNoForms
+writing_enums_adds_no_forms may_change keeps_constants members tree test none sorted h =
+    keeps may_change keeps_constants members tree sorted (λ k n. test k) (λ k n m. none k (made-written k m)) (λ enums p t k a b have os. refl) h

@@ -1,5 +1,5 @@
 -- A module with its enums written, and with reads of their members, whatever is known of these: it is one by its sorts, keeps clauses of what fits, its texts can be written, and no name is made.
-use Rattle.std.specs.Prelude.{ℕ, Bool, false, List}
+use Rattle.std.specs.Prelude.{◌≡◌, ℕ, Bool, true, false, List}
 use Rattle.ecma_kind.specs.declared.kind.Kind.{Kind}
 use Rattle.ecma_kind.specs.declared.kind.Kind.TheVariants as kind
 use Rattle.ecma_kind.specs.declared.shapes.Sort.TheVariants as sort
@@ -44,6 +44,44 @@ abbrev pub WrittenEnumsKeepClauses : Type 0
 WrittenEnumsKeepClauses =
     (may_change keeps_constants : Bool) (members : List TsEnumRecordEntry) (tree : Node) → HasSort sort.Module tree → KeepsClauses tree (written may_change keeps_constants members tree)
 
+-- ---- forms
+
+-- the kinds of what is written for enums and for reads of their members
+abbrev pub is_written_kind : Kind → Bool
+is_written_kind kind.Absent = true
+is_written_kind kind.List = true
+is_written_kind (kind.Ident sym ctxt optional) = true
+is_written_kind (kind.IdentName sym) = true
+is_written_kind (kind.Str value raw) = true
+is_written_kind (kind.Number value raw) = true
+is_written_kind (kind.UnaryExpr op) = true
+is_written_kind (kind.BinExpr op) = true
+is_written_kind (kind.AssignExpr op) = true
+is_written_kind kind.MemberExpr = true
+is_written_kind kind.ComputedPropName = true
+is_written_kind kind.ObjectLit = true
+is_written_kind kind.KeyValueProp = true
+is_written_kind kind.KeyValuePatProp = true
+is_written_kind kind.AssignPat = true
+is_written_kind kind.CallExpr = true
+is_written_kind kind.FnExpr = true
+is_written_kind (kind.Function is_generator is_async) = true
+is_written_kind kind.Param = true
+is_written_kind kind.BlockStmt = true
+is_written_kind kind.ExprStmt = true
+is_written_kind (kind.VarDecl word declare) = true
+is_written_kind (kind.VarDeclarator definite) = true
+is_written_kind kind.BindingIdent = true
+is_written_kind kind.ExportDecl = true
+is_written_kind _ = false
+
+-- no other comes in: a tree without namespaces, say, has none then
+abbrev pub WritingEnumsAddsNoForms : Type 0
+WritingEnumsAddsNoForms =
+    (may_change keeps_constants : Bool) (members : List TsEnumRecordEntry) (tree : Node) (test : Kind → Bool) →
+    ((k : Kind) → is_written_kind k ≡ true → test k ≡ false) → HasSort sort.Module tree → NoneFails (λ w n. test (kind_of n)) tree →
+    NoneFails (λ w n. test (kind_of n)) (written may_change keeps_constants members tree)
+
 -- ---- names
 
 -- the names that are written are as short as those of the tree
@@ -62,8 +100,9 @@ is_such test _ = false
 -- each has the text and the context of one that stood there: what no identifier of the tree is, none that is written is
 abbrev pub WritingEnumsKeepsIds : Type 0
 WritingEnumsKeepsIds =
-    (may_change keeps_constants : Bool) (members : List TsEnumRecordEntry) (tree : Node) (test : List ℕ → ℕ → Bool) → NoneFails (λ w n. is_such test (kind_of n)) tree
-    → NoneFails (λ w n. is_such test (kind_of n)) (written may_change keeps_constants members tree)
+    (may_change keeps_constants : Bool) (members : List TsEnumRecordEntry) (tree : Node) (test : List ℕ → ℕ → Bool) →
+    NoneFails (λ w n. is_such test (kind_of n)) tree →
+    NoneFails (λ w n. is_such test (kind_of n)) (written may_change keeps_constants members tree)
 
 -- ---- texts
 

@@ -3,7 +3,7 @@
 //! Each function carries one law over the definitions, and does nothing. The laws are stated in `specs/Laws.antt`.
 #![tactic(auto)]
 
-ghost use Rattle.ecma_lower_enums_sources.specs.Laws.{WritingEnumsKeepsIds, WritingEnumsKeepsNamesShort, WritingEnumsMakesNoNames, WrittenEnumsAreSorted, WrittenEnumsHaveTexts, WrittenEnumsKeepClauses};
+ghost use Rattle.ecma_lower_enums_sources.specs.Laws.{WritingEnumsAddsNoForms, WritingEnumsKeepsIds, WritingEnumsKeepsNamesShort, WritingEnumsMakesNoNames, WrittenEnumsAreSorted, WrittenEnumsHaveTexts, WrittenEnumsKeepClauses};
 
 /// Each node has the sort that its parent asks for, from a module on, where it had.
 pub fn written_enums_are_sorted()
@@ -33,4 +33,9 @@ pub fn writing_enums_makes_no_names()
 /// No identifier that is written has a text and a context that none of the tree has.
 pub fn writing_enums_keeps_ids()
     ensures { WritingEnumsKeepsIds }
+{}
+
+/// What is written for enums and for reads of their members is of a few kinds, and no node of any other kind comes in.
+pub fn writing_enums_adds_no_forms()
+    ensures { WritingEnumsAddsNoForms }
 {}
