@@ -1,10 +1,12 @@
 -- A module that fits, with its enums written, fits.
-use Rattle.std.proofs.Common.{◌≡◌, Bool, List, None, refl}
+use Rattle.std.proofs.Common.{◌≡◌, Bool, List, None, refl, subst, Ok, Err, Result}
 use Rattle.ecma_kind.specs.declared.shapes.Sort.TheVariants as sort
 use Rattle.ecma_tree.specs.Sorted.{one}
 use Rattle.ecma_tree.specs.declared.node.Node.{Node}
 use Rattle.ecma_rules.specs.Jumps.{Held, first_stray, not_held}
 use Rattle.ecma_rules.specs.Children.{kind_of}
+use Rattle.ecma_enums.specs.Walks.{with_enums}
+use Rattle.ecma_enums.specs.declared.error.EnumError.{EnumError}
 use Rattle.ecma_enums.specs.declared.record.TsEnumRecordEntry.{TsEnumRecordEntry}
 use Rattle.ecma_fits.specs.declared.unfit.Where.{Where}
 use Rattle.ecma_fits.specs.Counts.{is_short}
@@ -12,7 +14,7 @@ use Rattle.ecma_fits.specs.Fitting.{Fits, NoneFails, at_top, breaks_rule, is_mis
 use Rattle.ecma_fits.proofs.Clauses.{either, either_none, less, out_of_role, stray_target}
 use Rattle.ecma_lower_enums.specs.declared.known.KnownEnums.{KnownEnums}
 use Rattle.ecma_lower_enums.specs.declared.place.Place.TheVariants as place
-use Rattle.ecma_lower_enums.specs.Lowered.{known_enums}
+use Rattle.ecma_lower_enums.specs.Lowered.{known_enums, lowered_by}
 use Rattle.ecma_lower_enums_sources.specs.Laws.{written}
 use Rattle.ecma_lower_enums_sources.specs.Throughout.{Throughout}
 use Rattle.ecma_lower_enums_sources.proofs.ClausesKept.{written_enums_keep_clauses}
@@ -20,7 +22,7 @@ use Rattle.ecma_lower_enums_sources.proofs.Relating.{module-written}
 use Rattle.ecma_lower_enums_sources.proofs.Relation.{Stands}
 use Rattle.ecma_lower_enums_sources.proofs.SortsKept.{written_enums_are_sorted}
 use Rattle.ecma_lower_enums_sources.proofs.Trees.{fails-everywhere-not}
-use Rattle.ecma_lower_enums_fits.specs.Laws.{WrittenEnumsFit}
+use Rattle.ecma_lower_enums_fits.specs.Laws.{LoweredEnumsFit, WrittenEnumsFit}
 use Rattle.ecma_lower_enums_fits.specs.Premises.{NoneNamesArguments, names_arguments}
 use Rattle.ecma_lower_enums_fits.proofs.Agreeing.{Agree, clauses, inside, unfit}
 use Rattle.ecma_lower_enums_fits.proofs.Fitting.{kinds, owed, quiet, seats}
@@ -84,3 +86,17 @@ module _ (may_change keeps_constants : Bool) (members : List TsEnumRecordEntry) 
 
 pub written_enums_fit : WrittenEnumsFit
 written_enums_fit may_change keeps_constants members tree fits names = fit may_change keeps_constants members tree fits names
+
+-- with the members that are found
+found-fit : (may_change keeps_constants : Bool) (tree after : Node) (members : Result (List TsEnumRecordEntry) EnumError) → lowered_by may_change keeps_constants tree members ≡ Ok after
+    → Fits tree → NoneNamesArguments tree → Fits after
+found-fit may_change keeps_constants tree after (Ok members) is fits names =
+    let same : written may_change keeps_constants members tree ≡ after = cc in
+    subst Fits same (fit may_change keeps_constants members tree fits names)
+found-fit may_change keeps_constants tree after (Err e) is fits names = absurd (by is)
+  where
+    by : lowered_by may_change keeps_constants tree (Err e) ≡ Ok after → ⊥
+    by h = cc
+
+pub lowered_enums_fit : LoweredEnumsFit
+lowered_enums_fit may_change keeps_constants unresolved tree after is fits names = found-fit may_change keeps_constants tree after (with_enums unresolved tree) is fits names
