@@ -1,5 +1,5 @@
 -- What is said of the children of a node is said of what is written of them.
-use Rattle.std.proofs.Common.{◌≡◌, ◌∙◌, ◌⊎◌, inl, inr, ℕ, zero, suc, Bool, true, false, ◌&&◌, ◌||◌, List, [], ◌∷◌, length, map, replicate, Option, Some, None, refl, sym, ap, ap₂, subst, slice_get}
+use Rattle.std.proofs.Common.{◌≡◌, ◌∙◌, ◌⊎◌, inl, inr, ℕ, zero, suc, Bool, true, false, ◌&&◌, ◌||◌, List, [], ◌∷◌, length, map, Option, Some, None, refl, sym, ap, ap₂, subst, slice_get}
 use Rattle.std.specs.List.{list_all, list_any}
 use Rattle.std.specs.Prelude.{int_lt, pos, if◌then◌else◌}
 use Rattle.ecma_kind.specs.declared.ident.Ident.{Ident}
@@ -15,8 +15,8 @@ use Rattle.ecma_number.specs.declared.js_number.JsNumber.TheVariants as number
 use Rattle.ecma_tree.specs.Laws.{HaveShapes}
 use Rattle.ecma_tree.specs.Idents.{ident_node}
 use Rattle.ecma_tree.specs.Nodes.{dummy_span, node_of}
-use Rattle.ecma_tree.specs.Sorted.{HasShape, allows, child_shapes, is_absent, is_list, item_shape}
-use Rattle.ecma_tree.specs.declared.node.Node.{Node, Node-F, fold-Node, fold_out-Node, out-Node}
+use Rattle.ecma_tree.specs.Sorted.{allows, child_shapes, is_absent, is_list, item_shape}
+use Rattle.ecma_tree.specs.declared.node.Node.{Node, Node-F, fold_out-Node}
 use Rattle.ecma_tree.specs.declared.node.Node.TheViews.{out-roll-Node}
 use Rattle.ecma_rules.specs.Children.{children_of as items_of, holds_of, is_present, kind_of, of_kind}
 use Rattle.ecma_rules.specs.Targets.{first_is}

@@ -1,30 +1,23 @@
 -- Clauses of what fits that ask nothing of where a node stands: a module of which no node fails one has none with its enums written.
-use Rattle.std.proofs.Common.{◌≡◌, ◌∙◌, ℕ, zero, suc, Bool, true, false, not, ◌&&◌, ◌||◌, cond, List, [], ◌∷◌, ◌++◌, length, Option, Some, None, is_some, refl, sym, ap, subst, slice_get}
-use Rattle.std.specs.List.{All}
+use Rattle.std.proofs.Common.{◌≡◌, ◌∙◌, ℕ, zero, suc, Bool, true, false, cond, List, [], ◌∷◌, length, Option, Some, None, refl, sym, ap, subst, slice_get}
 use Rattle.std.specs.Option.{option_and_then}
-use Rattle.std.specs.Prelude.{ℤ}
 use Rattle.ecma_kind.specs.declared.ident.Ident.{Ident}
 use Rattle.ecma_kind.specs.declared.kind.Kind.{Kind}
 use Rattle.ecma_kind.specs.declared.kind.Kind.TheVariants as kind
 use Rattle.ecma_kind.specs.declared.shapes.Shape.{Shape}
 use Rattle.ecma_kind.specs.declared.span.Span.{Span}
 use Rattle.ecma_tree.specs.Laws.{HaveShapes}
-use Rattle.ecma_tree.specs.Nodes.{absent, node_of}
-use Rattle.ecma_tree.specs.Sorted.{HasShape, child_shapes, is_absent}
-use Rattle.ecma_tree.specs.declared.node.Node.{Node, out-Node}
-use Rattle.ecma_rules.specs.Children.{child_holds, has_child, kind_of}
-use Rattle.ecma_rules.specs.Members.{second_by}
-use Rattle.ecma_fits.specs.Branches.{is_choice, takes_else}
-use Rattle.ecma_fits.specs.Chains.{is_loose_by}
-use Rattle.ecma_fits.specs.Members.{is_misread_by}
+use Rattle.ecma_tree.specs.Nodes.{node_of}
+use Rattle.ecma_tree.specs.Sorted.{child_shapes, is_absent}
+use Rattle.ecma_tree.specs.declared.node.Node.{Node}
+use Rattle.ecma_rules.specs.Children.{kind_of}
 use Rattle.ecma_strip_fits.proofs.Walk.{shape_parts}
 use Rattle.ecma_utils.specs.Expressions.{key_of}
-use Rattle.ecma_enums.specs.Values.{expression, undefined}
+use Rattle.ecma_enums.specs.Values.{expression}
 use Rattle.ecma_enums.specs.KnownReads.{known_read}
 use Rattle.ecma_enums.specs.declared.value.TsEnumRecordValue.{TsEnumRecordValue}
 use Rattle.ecma_lower_enums.specs.declared.known.KnownEnums.{KnownEnums}
 use Rattle.ecma_lower_enums.specs.declared.place.Place.{Place}
-use Rattle.ecma_lower_enums.specs.declared.place.Place.TheVariants as place
 use Rattle.ecma_lower_enums.specs.Places.{place_in}
 use Rattle.ecma_lower_enums.specs.Forms.{member}
 use Rattle.ecma_lower_enums.specs.Writing.{with_default}

@@ -5,11 +5,8 @@ use Rattle.std.specs.Option.{option_and_then, option_map}
 use Rattle.ecma_kind.specs.declared.ident.Ident.{Ident}
 use Rattle.ecma_kind.specs.declared.kind.Kind.{Kind}
 use Rattle.ecma_kind.specs.declared.kind.Kind.TheVariants as kind
-use Rattle.ecma_kind.specs.declared.operators.AssignOp.TheVariants.{Assign}
-use Rattle.ecma_kind.specs.declared.operators.BinaryOp.TheVariants as binary
 use Rattle.ecma_kind.specs.declared.span.Span.{Span}
-use Rattle.ecma_tree.specs.Idents.{ident_node}
-use Rattle.ecma_tree.specs.Nodes.{absent, dummy_span, list_node, node_of}
+use Rattle.ecma_tree.specs.Nodes.{absent, dummy_span, node_of}
 use Rattle.ecma_tree.specs.Sorted.{is_absent, is_list}
 use Rattle.ecma_tree.specs.declared.node.Node.{Node, Node-F, ind-Node, out-Node, roll-Node}
 use Rattle.ecma_tree.specs.declared.node.Node.TheViews.{out-roll-Node}
@@ -17,22 +14,20 @@ use Rattle.ecma_rewriting.specs.Laws.{children, items, layer}
 use Rattle.ecma_rewriting.specs.Rewriting.{Rewriting, becomes, only}
 use Rattle.ecma_rewriting.proofs.Equations.{becomes-roll, layer-other, list-kind}
 use Rattle.ecma_strip.specs.Staying.{stays}
-use Rattle.ecma_utils.specs.Expressions.{assign_of, call_of, computed_member_of, key_of}
+use Rattle.ecma_utils.specs.Expressions.{key_of}
 use Rattle.ecma_enums.specs.Declarations.{member_name}
 use Rattle.ecma_enums.specs.KnownReads.{known_read}
-use Rattle.ecma_enums.specs.Values.{expression, text_literal, undefined}
-use Rattle.ecma_enums.specs.declared.value.TsEnumRecordValue.{TsEnumRecordValue}
+use Rattle.ecma_enums.specs.Values.{expression, undefined}
 use Rattle.ecma_lower_enums.specs.declared.answer.Answer.{Answer}
 use Rattle.ecma_lower_enums.specs.declared.answer.Answer.TheVariants.{Instead, Pattern}
 use Rattle.ecma_lower_enums.specs.declared.form.Form.{Form}
 use Rattle.ecma_lower_enums.specs.declared.form.Form.TheVariants as form
 use Rattle.ecma_lower_enums.specs.declared.known.Around.{Around}
 use Rattle.ecma_lower_enums.specs.declared.known.KnownEnums.{KnownEnums}
-use Rattle.ecma_lower_enums.specs.declared.known.Part.{Part}
 use Rattle.ecma_lower_enums.specs.declared.place.Place.{Place}
 use Rattle.ecma_lower_enums.specs.declared.place.Place.TheVariants as place
-use Rattle.ecma_lower_enums.specs.Forms.{as_it_stands, at_text, block_of, call, calls, declaration, declarations, declared, function_of, is_exported_here, is_known, is_known_text, is_nil, is_this, known_value, member, member_in, member_of_enum, object_by, or_new, parameters, part_statements, set_member, set_other, set_text, value_of, value_or, variable, word_of}
-use Rattle.ecma_lower_enums.specs.Known.{alias_by, has_id, name_at, part_by, skips}
+use Rattle.ecma_lower_enums.specs.Forms.{member}
+use Rattle.ecma_lower_enums.specs.Known.{alias_by, name_at, part_by, skips}
 use Rattle.ecma_lower_enums.specs.Places.{is_item, is_left, is_raw}
 use Rattle.ecma_rewriter.specs.Seats.{around_or}
 use Rattle.ecma_lower_enums.specs.Seats.{Seat, around_at, around_in, behind, next_seat, of_block, place_at, seat_at, whole}

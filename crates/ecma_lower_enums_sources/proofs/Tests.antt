@@ -1,16 +1,14 @@
 -- What the grammar asks of a node whose kind stays is the same of what is written of it.
-use Rattle.std.proofs.Common.{◌≡◌, ◌∙◌, ℕ, zero, suc, Bool, true, false, not, ◌&&◌, ◌||◌, cond, List, [], ◌∷◌, filter, length, Option, Some, None, is_some, refl, sym, ap, ap₂, subst, slice_get}
-use Rattle.ecma_kind.specs.Sorts.{belongs}
+use Rattle.std.proofs.Common.{◌≡◌, ◌∙◌, ℕ, suc, Bool, true, false, not, ◌&&◌, ◌||◌, cond, List, [], ◌∷◌, filter, length, is_some, refl, sym, ap, ap₂, subst, slice_get}
 use Rattle.ecma_kind.specs.declared.ident.Ident.{Ident}
 use Rattle.ecma_kind.specs.declared.kind.Kind.{Kind}
 use Rattle.ecma_kind.specs.declared.kind.Kind.TheVariants as kind
 use Rattle.ecma_kind.specs.declared.shapes.Shape.{Shape}
-use Rattle.ecma_kind.specs.declared.shapes.Sort.{Sort}
 use Rattle.ecma_kind.specs.declared.shapes.Sort.TheVariants as sort
 use Rattle.ecma_tree.specs.Laws.{HaveShapes}
-use Rattle.ecma_tree.specs.Sorted.{allows, child_shapes, is_list, item_shape, many, one}
+use Rattle.ecma_tree.specs.Sorted.{child_shapes, item_shape, many}
 use Rattle.ecma_tree.specs.declared.node.Node.{Node}
-use Rattle.ecma_rules.specs.Children.{child_holds, child_is, children_of as items_of, has_child, holds_of, kind_of}
+use Rattle.ecma_rules.specs.Children.{child_holds, children_of as items_of, has_child, holds_of}
 use Rattle.ecma_rules.specs.Members.{is_constructor, is_constructor_key, is_full_constructor, is_method, is_special_function, second_by, second_of}
 use Rattle.ecma_fits.specs.Branches.{is_choice, takes_else}
 use Rattle.ecma_fits.specs.Chains.{goes_on, is_behind_chain, is_loose_by}
