@@ -54,12 +54,7 @@ fn refused_here(
 }
 
 /// The least such place in a tree.
-fn first_in(
-    alloc: Global,
-    rule: Rule,
-    tree: &Node,
-    around: Around,
-) -> Result<Option<u32>, NoMemory>
+fn first_in(alloc: Global, rule: Rule, tree: &Node, around: Around) -> Result<Option<u32>, NoMemory>
     ensures { IfOk result (λ place. place ≡ first_failing Around (refused_here rule) around_in tree.now around) }
 {
     let mut found = refused_here(alloc, rule, around, tree)?;

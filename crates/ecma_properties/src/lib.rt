@@ -10,7 +10,9 @@ mod standing;
 mod supers;
 
 pub use checking::check_properties;
-pub use classes::{constructor_of, has_properties, is_field, is_moved, parameters_of, property_names};
+pub use classes::{
+    constructor_of, has_properties, is_field, is_moved, parameters_of, property_names,
+};
 pub use error::{PropertyError, Rule};
 pub use keys::{kept_key, kept_of};
 pub use supers::{is_super_stmt, shares, under_types};
