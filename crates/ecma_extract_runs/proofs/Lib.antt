@@ -6,4 +6,5 @@ pub mod ByKind
 pub mod ByRole
 pub mod Nodes
 pub mod Sorted
+pub mod Unasked
 pub mod Laws

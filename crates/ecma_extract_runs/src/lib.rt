@@ -6,8 +6,8 @@
 ghost use Rattle.ecma_extract_runs.specs.Laws.{ExtractionKeepsEffects, ExtractionOfExpressionsKeepsEffects, PreservationKeepsEffects, PreservationOfExpressionsKeepsEffects, SortedExpressionsFit};
 
 /// What is extracted of an expression that gives a value does, evaluated in order, what the expression does, but for places. Asked is that what is listed in it has
-/// the sort of an element or a property, that no declared name stands where an expression is parted, that no scope around declares a name with the context of what is not resolved, and that no name
-/// is that of a member of an enum.
+/// the sort of an element or a property, that no declared name stands where an expression is parted, that no scope around declares a name with the context of what is not resolved, and that
+/// no name of the expression is that of a member of an enum.
 pub fn extraction_keeps_effects()
     ensures { ExtractionKeepsEffects }
 {}
@@ -23,7 +23,7 @@ pub fn sorted_expressions_fit()
     ensures { SortedExpressionsFit }
 {}
 
-/// So of what has that sort the first law asks only that no scope around declares a name with the context of what is not resolved, and that no name is that of a member of an enum.
+/// So of what has that sort the first law asks only that no scope around declares a name with the context of what is not resolved, and that no name of it is that of a member of an enum.
 pub fn extraction_of_expressions_keeps_effects()
     ensures { ExtractionOfExpressionsKeepsEffects }
 {}

@@ -8,7 +8,7 @@ use Rattle.ecma_runs.specs.Values.{Value, Undefined, Own}
 use Rattle.ecma_runs.specs.State.{Id, Entered, Binding, Activation, Sort, Plain, Method, Closure, Code, Entry, Object, State}
 use Rattle.ecma_runs.specs.Run.{Ended, TurnsSpent, Run, then_outcome, ◌>>=◌, give, outside, when}
 use Rattle.ecma_runs.specs.Environment.{Reference, ToValue, empty, is_among, initialize, initialize_one}
-use Rattle.ecma_runs.specs.Meaning.{Invocation, AsCall, ExecutionContext, inside, Meaning}
+use Rattle.ecma_runs.specs.Meaning.{Invocation, AsCall, Known, ExecutionContext, inside, Meaning}
 use Rattle.ecma_runs.specs.Objects.{callable_in, code_in, Function, calling_of}
 use Rattle.ecma_runs.specs.Declarations.{all_names, has_no_effect}
 use Rattle.ecma_runs.specs.Patterns.{all_parameters}
@@ -224,25 +224,25 @@ module _ (old : State) where
     calling_follows f sort vs s is h = absurd (cc)
 
     module _ (applies : AppliesFunctions (lone x)) where
-      apply_at_idle : (inner : ℕ → Invocation → List Value → Run Value) (f : ℕ) (vs : List Value) → LeavesFrom old (Idle f) (λ v s. Unit {0}) (apply_at inner x.provided (lone x).known f (AsCall Undefined) vs)
-      apply_at_idle inner f vs = record {
+      apply_at_idle : (inner : ℕ → Invocation → List Value → Run Value) (known : Known) (f : ℕ) (vs : List Value) → LeavesFrom old (Idle f) (λ v s. Unit {0}) (apply_at inner x.provided known f (AsCall Undefined) vs)
+      apply_at_idle inner known f vs = record {
         at = λ s g h.
-            let functions = functions_with inner x.provided (lone x).known in
-            subst (λ z. FollowsIn old (λ v s. Unit {0}) (invoke_closure functions x.provided (lone x).known f (AsCall Undefined) vs (code_in (callable_in z)) s)) (sym h.at)
-            (subst (λ z. FollowsIn old (λ v s. Unit {0}) (invoke_closure functions x.provided (lone x).known f (AsCall Undefined) vs (code_in z) s)) (sym h.code)
-            ((of_leaves old {R = Any} (invoked_leaves (meaning h.closure.node) f h.closure.home h.closure.sort vs (closure_context functions x.provided (lone x).known h.closure) h.enters
-            (entered_leaves old (closure_context functions x.provided (lone x).known h.closure) (Some (called_with Undefined f h.closure.home vs)) vs h.closure.node h.idle))).at s g tt));
+            let functions = functions_with inner x.provided known in
+            subst (λ z. FollowsIn old (λ v s. Unit {0}) (invoke_closure functions x.provided known f (AsCall Undefined) vs (code_in (callable_in z)) s)) (sym h.at)
+            (subst (λ z. FollowsIn old (λ v s. Unit {0}) (invoke_closure functions x.provided known f (AsCall Undefined) vs (code_in z) s)) (sym h.code)
+            ((of_leaves old {R = Any} (invoked_leaves (meaning h.closure.node) f h.closure.home h.closure.sort vs (closure_context functions x.provided known h.closure) h.enters
+            (entered_leaves old (closure_context functions x.provided known h.closure) (Some (called_with Undefined f h.closure.home vs)) vs h.closure.node h.idle))).at s g tt));
       }
 
-      apply_idle : (inner : ℕ → Invocation → List Value → Run Value) (f : ℕ) (vs : List Value) → LeavesFrom old (Idle f) (λ v s. Unit {0}) (apply inner x.provided (lone x).known f (AsCall Undefined) vs)
-      apply_idle inner f vs = bind_from old (kept_from old (Idle f) (still_idle f) (λ s. spend_leaves s)) (λ _. apply_at_idle inner f vs)
+      apply_idle : (inner : ℕ → Invocation → List Value → Run Value) (known : Known) (f : ℕ) (vs : List Value) → LeavesFrom old (Idle f) (λ v s. Unit {0}) (apply inner x.provided known f (AsCall Undefined) vs)
+      apply_idle inner known f vs = bind_from old (kept_from old (Idle f) (still_idle f) (λ s. spend_leaves s)) (λ _. apply_at_idle inner known f vs)
 
       invoke_follows : (f : ℕ) (vs : List Value) (s : State) → Still old s → Idle f s
           → ((x.functions.invoke f (AsCall Undefined) vs s ≡ Ended TurnsSpent s)
-          ⊎ ((inner : ℕ → Invocation → List Value → Run Value) × (x.functions.invoke f (AsCall Undefined) vs s ≡ apply inner x.provided (lone x).known f (AsCall Undefined) vs s)))
+          ⊎ ((inner : ℕ → Invocation → List Value → Run Value) × (known : Known) × (x.functions.invoke f (AsCall Undefined) vs s ≡ apply inner x.provided known f (AsCall Undefined) vs s)))
           → FollowsIn old (λ v t. Unit {0}) (x.functions.invoke f (AsCall Undefined) vs s)
       invoke_follows f vs s g h (inl e) = subst (λ r. FollowsIn old (λ v t. Unit {0}) r) (sym e) g
-      invoke_follows f vs s g h (inr e) = subst (λ r. FollowsIn old (λ v t. Unit {0}) r) (sym e.1) ((apply_idle e.0 f vs).at s g h)
+      invoke_follows f vs s g h (inr e) = subst (λ r. FollowsIn old (λ v t. Unit {0}) r) (sym e.2) ((apply_idle e.0 e.1 f vs).at s g h)
 
       call_idle : (f : ℕ) (vs : List Value) → LeavesFrom old (Idle f) (λ v s. Unit {0}) (call_own (lone x) f Undefined vs)
       call_idle f vs = record {

@@ -35,7 +35,7 @@ use Rattle.ecma_judge_runs.proofs.Keeping.{FollowsIn}
 use Rattle.ecma_judge_runs.proofs.Settling.{Settles}
 use Rattle.ecma_judge_runs.proofs.Joined.{IsText, item_no_list, known_text}
 use Rattle.ecma_judge_runs.proofs.Numbered.{given_there, IsArrayNumber, known_number}
-use Rattle.ecma_judge_runs.proofs.Laws.{still_behind, what_has_no_effects_is_still, classes_without_effects_are_still, calls_of_pure_callees_are_still, what_is_known_is_so, contexts_apply_functions}
+use Rattle.ecma_judge_runs.proofs.Laws.{still_behind, what_has_no_effects_is_still, classes_without_effects_are_still, calls_of_pure_callees_are_still, what_is_known_is_so, contexts_apply_functions, contexts_construct_objects}
 
 -- ---- names that are global
 
@@ -58,7 +58,7 @@ no_global ctx (e ∷ scope) h =
 -- ---- what the other laws ask
 
 applies_in : (ctx : ExprCtx) (x : ExecutionContext) → IsInModule ctx x → AppliesFunctions x
-applies_in ctx x inside = contexts_apply_functions x inside.depth inside.calls
+applies_in ctx x inside = contexts_apply_functions x x.known inside.calls.0 inside.calls.1
 
 so_in : (ctx : ExprCtx) (x : ExecutionContext) → IsInModule ctx x → IsSo all ctx x
 so_in ctx x inside = record { globals = λ h. inside.names; calls = λ h. applies_in ctx x inside }
@@ -70,12 +70,12 @@ pub sorted_expressions_are_valued : SortedExpressionsAreValued
 sorted_expressions_are_valued e sorted = shape_valued e (one sort.Expr) sorted
 
 pub what_has_no_effects_in_modules_is_still : WhatHasNoEffectsInModulesIsStill
-what_has_no_effects_in_modules_is_still ctx e x s inside h none =
-    what_has_no_effects_is_still ctx all e x s inside.no_enums inside.off (so_in ctx x inside) ((sortable ctx x e).whole (one sort.Expr) h.sorted none h.told) none
+what_has_no_effects_in_modules_is_still ctx e x s inside bare h none =
+    what_has_no_effects_is_still ctx all e x s bare inside.off (so_in ctx x inside) ((sortable ctx x e).whole (one sort.Expr) h.sorted none h.told) none
 
 pub classes_without_effects_in_modules_are_still : ClassesWithoutEffectsInModulesAreStill
-classes_without_effects_in_modules_are_still ctx class names x s inside apart h none =
-    classes_without_effects_are_still ctx all class names x s inside.no_enums inside.off (so_in ctx x inside) (λ is. apart) ((sortable ctx x class).whole (one sort.Class) h.sorted none h.told) none
+classes_without_effects_in_modules_are_still ctx class names x s inside bare apart h none =
+    classes_without_effects_are_still ctx all class names x s bare inside.off (so_in ctx x inside) (λ is. apart) ((sortable ctx x class).whole (one sort.Class) h.sorted none h.told) none
 
 -- a function expression that is said to do nothing has the parts of one
 idle_function : (ctx : ExprCtx) (n : Node) (k : Kind) (cs : List Node) → (out-Node n).children ≡ cs → Below k (one sort.Expr) cs → pure_callee_by ctx k n ≡ true → is_function_expression k ≡ true → passes_at is_harmless 1 n ≡ true
@@ -88,38 +88,35 @@ may_be_called ctx e x inside sorted pure is =
     (idle_function ctx e (out-Node e).kind (out-Node e).children refl (shaped e (one sort.Expr) sorted).1 (sym (callee-out ctx e) ∙ pure) is, applies_in ctx x inside)
 
 pub calls_of_pure_callees_in_modules_are_still : CallsOfPureCalleesInModulesAreStill
-calls_of_pure_callees_in_modules_are_still ctx e x arguments s inside sorted pure = calls_of_pure_callees_are_still ctx e x arguments s inside.no_enums inside.names (may_be_called ctx e x inside sorted pure) pure
+calls_of_pure_callees_in_modules_are_still ctx e x arguments s inside bare sorted pure = calls_of_pure_callees_are_still ctx e x arguments s bare inside.names (may_be_called ctx e x inside sorted pure) pure
 
 pub what_is_known_in_modules_is_so : WhatIsKnownInModulesIsSo
-what_is_known_in_modules_is_so ctx e x s t v bare objects apart sorted done = what_is_known_is_so ctx true e x s t v bare (λ is. objects) apart (shape_valued e (one sort.Expr) sorted) done
+what_is_known_in_modules_is_so ctx e x s t v bare runs apart sorted done = what_is_known_is_so ctx true e x s t v bare (λ is. contexts_construct_objects x x.known runs.0 runs.1) apart (shape_valued e (one sort.Expr) sorted) done
 
 -- ---- what is pure
 
 -- where nothing is known of enums
-inside_alone : (ctx : ExprCtx) (x : ExecutionContext) → IsInModule ctx x → IsInModule ctx (lone x)
-inside_alone ctx x inside = to_lone x inside.no_enums (λ z. IsInModule ctx z) inside
-
-module _ (ctx : ExprCtx) (x : ExecutionContext) (inside : IsInModule ctx (lone x)) where
+module _ (ctx : ExprCtx) (x : ExecutionContext) (inside : IsInModule ctx x) where
   steady_in : (n : Node) → Steady ctx (IsSorted ctx (lone x)) (lone x) n
-  steady_in n = steady ctx (IsSorted ctx (lone x)) (lone x) (sorted_asks ctx inside.off (lone x) (no_global ctx x.scope inside.names) (λ is. inside.names) (λ is. applies_in ctx (lone x) inside)) n
+  steady_in n = steady ctx (IsSorted ctx (lone x)) (lone x) (sorted_asks ctx inside.off (lone x) (no_global ctx x.scope inside.names) (λ is. inside.names) (λ is. applies_in ctx x inside)) n
 
   sorted_in : (e : Node) → HasNames ctx x.known.declared sort.Expr e → IsSorted ctx (lone x) e
   sorted_in e h = record { shape = one sort.Expr; has = h.sorted; told = h.told }
 
 pub what_is_pure_in_modules_is_still : WhatIsPureInModulesIsStill
-what_is_pure_in_modules_is_still ctx e x s inside h pure =
-    from_lone x inside.no_enums (λ z. Still s (state_behind ((meaning e).value z s)))
-    (still_behind ((meaning e).value (lone x)) s (((steady_in ctx x (inside_alone ctx x inside) e).truth (sorted_in ctx x (inside_alone ctx x inside) e h) pure).leaves s))
+what_is_pure_in_modules_is_still ctx e x s inside bare h pure =
+    from_lone x e bare (λ m. Still s (state_behind (m s)))
+    (still_behind ((meaning e).value (lone x)) s (((steady_in ctx x inside e).truth (sorted_in ctx x inside e h) pure).leaves s))
 
 pub what_is_a_pure_number_in_modules_is_still : WhatIsAPureNumberInModulesIsStill
-what_is_a_pure_number_in_modules_is_still ctx e x s inside h pure =
-    from_lone x inside.no_enums (λ z. Still s (state_behind ((meaning e).value z s)))
-    (still_behind ((meaning e).value (lone x)) s (((steady_in ctx x (inside_alone ctx x inside) e).number (sorted_in ctx x (inside_alone ctx x inside) e h) pure).leaves s))
+what_is_a_pure_number_in_modules_is_still ctx e x s inside bare h pure =
+    from_lone x e bare (λ m. Still s (state_behind (m s)))
+    (still_behind ((meaning e).value (lone x)) s (((steady_in ctx x inside e).number (sorted_in ctx x inside e h) pure).leaves s))
 
 pub what_has_a_known_text_in_modules_is_still : WhatHasAKnownTextInModulesIsStill
-what_has_a_known_text_in_modules_is_still ctx e x text s inside h known =
-    from_lone x inside.no_enums (λ z. Still s (state_behind ((meaning e).value z s)))
-    (still_behind ((meaning e).value (lone x)) s ((steady_in ctx x (inside_alone ctx x inside) e).text (sorted_in ctx x (inside_alone ctx x inside) e h) text known s).0)
+what_has_a_known_text_in_modules_is_still ctx e x text s inside bare h known =
+    from_lone x e bare (λ m. Still s (state_behind (m s)))
+    (still_behind ((meaning e).value (lone x)) s ((steady_in ctx x inside e).text (sorted_in ctx x inside e h) text known s).0)
 
 -- ---- texts and Numbers in the state behind
 
@@ -131,16 +128,16 @@ text_in ctx e text v t (inl p) = inl p.0
 text_in ctx e text v t (inr a) = inr a.0
 
 pub known_texts_in_modules_are_so : KnownTextsInModulesAreSo
-known_texts_in_modules_are_so ctx e x text s t v inside h known done =
+known_texts_in_modules_are_so ctx e x text s t v inside bare h known done =
     text_in ctx e text v t
     (given_in s t (IsText ctx e text) ((meaning e).value (lone x)) v
-    (known_text ctx x (no_global ctx x.scope inside.names) (steady_in ctx x (inside_alone ctx x inside)) e (sorted_in ctx x (inside_alone ctx x inside) e h)
-    (item_no_list One sort.Expr (out-Node e).kind (shaped e (one sort.Expr) h.sorted).0) text known) (to_lone x inside.no_enums (λ z. (meaning e).value z s ≡ Done v t) done))
+    (known_text ctx x (no_global ctx x.scope inside.names) (steady_in ctx x inside) e (sorted_in ctx x inside e h)
+    (item_no_list One sort.Expr (out-Node e).kind (shaped e (one sort.Expr) h.sorted).0) text known) (to_lone x e bare (λ m. m s ≡ Done v t) done))
 
 pub known_numbers_in_modules_are_so : KnownNumbersInModulesAreSo
-known_numbers_in_modules_are_so ctx e x number s t v objects inside h known done = record {
-  itself = λ n is. subst (λ k. HasNumber k v) known (what_is_known_in_modules_is_so ctx e x s t v inside.no_enums objects (no_global ctx x.scope inside.names) h.sorted done).number n is;
+known_numbers_in_modules_are_so ctx e x number s t v inside bare h known done = record {
+  itself = λ n is. subst (λ k. HasNumber k v) known (what_is_known_in_modules_is_so ctx e x s t v bare inside.calls (no_global ctx x.scope inside.names) h.sorted done).number n is;
   as_array = given_there (IsArrayNumber number) ((meaning e).value (lone x)) s t v
-      (known_number ctx x (no_global ctx x.scope inside.names) (steady_in ctx x (inside_alone ctx x inside)) objects e (sorted_in ctx x (inside_alone ctx x inside) e h) number known)
-      (to_lone x inside.no_enums (λ z. (meaning e).value z s ≡ Done v t) done);
+      (known_number ctx x (no_global ctx x.scope inside.names) (steady_in ctx x inside) (contexts_construct_objects x x.known inside.calls.0 inside.calls.1) e (sorted_in ctx x inside e h) number known)
+      (to_lone x e bare (λ m. m s ≡ Done v t) done);
 }

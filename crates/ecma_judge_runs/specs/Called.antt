@@ -10,10 +10,10 @@ use Rattle.ecma_judge_runs.specs.Idle.{is_harmless}
 use Rattle.ecma_runs.specs.Values.{Value}
 use Rattle.ecma_runs.specs.State.{Id, Entered, State}
 use Rattle.ecma_runs.specs.Run.{Ended, TurnsSpent, Run, ◌>>=◌}
-use Rattle.ecma_runs.specs.Enums.{no_enums}
-use Rattle.ecma_runs.specs.Meaning.{Invocation, ExecutionContext, Evaluation, Meaning}
+use Rattle.ecma_runs.specs.Meaning.{Invocation, Known, ExecutionContext, Evaluation, Meaning}
 use Rattle.ecma_runs.specs.Functions.{callee_by, call}
-use Rattle.ecma_runs.specs.Evaluation.{apply}
+use Rattle.ecma_runs.specs.Evaluation.{apply, calls, invoke}
+use Rattle.ecma_run_enums.specs.Asking.{asks_no_enums}
 
 abbrev pub is_function_expression : Kind → Bool
 is_function_expression kind.FnExpr = true
@@ -37,16 +37,20 @@ called callee arguments x = callee.reference x >>= λ r. callee_by x r >>= λ c.
 
 -- ---- what may be known of a context
 
--- no name is that of a member of an enum, and no member is known
-abbrev pub KnowsNoEnums : ExecutionContext → Type 0
-KnowsNoEnums x = x.known.enums ≡ no_enums x.known.enums.may_change
+-- a node asks nothing of what is known of enums: at no depth has it the name of a member or of an enum of which a member is not written, a read of a known member, or an enum
+abbrev pub AsksNoEnums : ExecutionContext → Node → Type 0
+AsksNoEnums x n = IsTrue (asks_no_enums x.known.enums n)
 
--- how calls come out: no turn is left, or one is spent, and the function does what it does, whatever calls do in it
+-- how calls come out: no turn is left, or one is spent, and the function does what it does, whatever calls do in it, and whatever is known of the module there
 abbrev pub AppliesFunctions : ExecutionContext → Type 0
 AppliesFunctions x =
     (function : ℕ) (how : Invocation) (arguments : List Value) (s : State) →
     (x.functions.invoke function how arguments s ≡ Ended TurnsSpent s)
-    ⊎ ((inner : ℕ → Invocation → List Value → Run Value) × (x.functions.invoke function how arguments s ≡ apply inner x.provided x.known function how arguments s))
+    ⊎ ((inner : ℕ → Invocation → List Value → Run Value) × (known : Known) × (x.functions.invoke function how arguments s ≡ apply inner x.provided known function how arguments s))
+
+-- it is one in which the code of a module runs, or that of the functions that it calls, however deep
+abbrev pub RunsInModule : ExecutionContext → Type 0
+RunsInModule x = (depth : ℕ) × ((x.functions.invoke ≡ invoke x.provided x.known) ⊎ (x.functions.invoke ≡ calls x.provided x.known depth))
 
 -- whether names with the context of what is not resolved, or the empty one, are known to be global, and calls to be those of the program
 pub record Assumed : Type 0 where

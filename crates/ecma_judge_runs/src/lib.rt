@@ -1,10 +1,11 @@
 //! What is judged of expressions, by the tables of `ecma_judge`, is so when they run by the definitions of `ecma_runs`.
 //!
 //! Each function carries one law, and does nothing. The laws are stated in `specs/Laws.antt`, for whatever tree, and in `specs/OfModules.antt`, for the expressions of modules.
+//! All ask that the expression asks nothing of what is known of the enums of its module, by `ecma_run_enums`; what the module knows of these elsewhere does not matter.
 #![tactic(auto)]
 
 ghost use Rattle.ecma_judge_runs.specs.OfModules.{CallsOfPureCalleesInModulesAreStill, ClassesWithoutEffectsInModulesAreStill, KnownNumbersInModulesAreSo, KnownTextsInModulesAreSo, SortedExpressionsAreTaken, SortedExpressionsAreValued, WhatHasAKnownTextInModulesIsStill, WhatHasNoEffectsInModulesIsStill, WhatIsAPureNumberInModulesIsStill, WhatIsKnownInModulesIsSo, WhatIsPureInModulesIsStill};
-ghost use Rattle.ecma_judge_runs.specs.Laws.{CallsOfPureCalleesAreStill, ClassesWithoutEffectsAreStill, ContextsApplyFunctions, PureCalleesAreStill, PureCallsAreStill, WhatHasAKnownTextIsStill, WhatHasNoEffectsIsStill, WhatIsAPureNumberIsStill, WhatIsKnownIsSo, WhatIsPureIsStill};
+ghost use Rattle.ecma_judge_runs.specs.Laws.{CallsOfPureCalleesAreStill, ClassesWithoutEffectsAreStill, ContextsApplyFunctions, ContextsConstructObjects, PureCalleesAreStill, PureCallsAreStill, WhatHasAKnownTextIsStill, WhatHasNoEffectsIsStill, WhatIsAPureNumberIsStill, WhatIsKnownIsSo, WhatIsPureIsStill};
 
 /// An expression that is said to have no effects changes nothing when it is evaluated: no variable, no object, and nothing that the host sees; however it comes
 /// out. It may make objects and environment records. Asked is that its names are told. Of a member of `Math` and a call of `Date` it is so where these names are
@@ -64,6 +65,11 @@ pub fn contexts_apply_functions()
     ensures { ContextsApplyFunctions }
 {}
 
+/// And what they construct are objects.
+pub fn contexts_construct_objects()
+    ensures { ContextsConstructObjects }
+{}
+
 /// Of a tree with the sort of an expression, as each expression of a module that is read, the laws on effects ask only that its names are told, where the names with the context of what is
 /// not resolved, or the empty one, are global, and calls those of the program.
 pub fn sorted_expressions_are_taken()
@@ -91,7 +97,7 @@ pub fn calls_of_pure_callees_in_modules_are_still()
     ensures { CallsOfPureCalleesInModulesAreStill }
 {}
 
-/// A value that an expression gives is as the expression is judged, where constructions give objects. Of its names nothing is asked.
+/// A value that an expression gives is as the expression is judged. Of its names nothing is asked.
 pub fn what_is_known_in_modules_is_so()
     ensures { WhatIsKnownInModulesIsSo }
 {}
@@ -117,7 +123,7 @@ pub fn known_texts_in_modules_are_so()
     ensures { KnownTextsInModulesAreSo }
 {}
 
-/// A known Number is that of the value in the state behind the evaluation, also of an array, where constructions give objects.
+/// A known Number is that of the value in the state behind the evaluation, also of an array.
 pub fn known_numbers_in_modules_are_so()
     ensures { KnownNumbersInModulesAreSo }
 {}

@@ -1,0 +1,10 @@
+pub mod Keeping
+pub mod States
+pub mod Functions
+pub mod Expressions
+pub mod Patterns
+pub mod Statements
+pub mod Classes
+pub mod Nodes
+pub mod Calls
+pub mod Laws

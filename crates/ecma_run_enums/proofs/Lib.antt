@@ -1,0 +1,9 @@
+pub mod Two
+pub mod Functions
+pub mod Expressions
+pub mod Patterns
+pub mod Statements
+pub mod Classes
+pub mod Nodes
+pub mod Asking
+pub mod Laws
