@@ -1,6 +1,6 @@
 -- What is extracted of an expression in which no name is that of a member of an enum does the same where no name at all is.
-use Rattle.std.proofs.Common.{◌≡◌, refl, sym, ap, ◌∙◌, subst, List, [], ◌∷◌, ◌++◌, map, Option, None, Bool, true, false, ◌&&◌, cond}
-use Rattle.std.specs.List.{filter, flat_map, list_all}
+use Rattle.std.proofs.Common.{◌≡◌, refl, sym, ap, ◌∙◌, subst, List, [], ◌∷◌, ◌++◌, map, Bool, true, false, cond}
+use Rattle.std.specs.List.{filter, flat_map}
 use Rattle.std.proofs.lemmas.Bool.{false≢true}
 use Rattle.ecma_kind.specs.declared.kind.Kind.{Kind}
 use Rattle.ecma_kind.specs.declared.kind.Kind.TheVariants as kind
@@ -18,7 +18,7 @@ use Rattle.ecma_judge.specs.Extraction.{extracted, extracted_by, given as left_o
 use Rattle.ecma_judge.specs.Judged.{judged}
 use Rattle.ecma_judge.specs.Parts.{passes_at}
 use Rattle.ecma_runs.specs.Enums.{Enums}
-use Rattle.ecma_runs.specs.Run.{◌>>=◌, give}
+use Rattle.ecma_runs.specs.Run.{◌>>=◌}
 use Rattle.ecma_runs.specs.Meaning.{ExecutionContext, Meaning}
 use Rattle.ecma_runs.specs.Expressions.{value_of}
 use Rattle.ecma_runs.specs.Declarations.{has_no_effect}
