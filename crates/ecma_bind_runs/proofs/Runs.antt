@@ -49,17 +49,17 @@ image n s =
 
 -- where nothing is known of enums, nothing is known of them with bound names
 
-abbrev bound_stand : (known : Known) (may_change : Bool) → known.enums ≡ no_enums may_change → EnumsStand known.enums same_names true None with_bound_names Shaped
+abbrev bound_stand : (known : Known) (may_change : Bool) → known.enums ≡ no_enums may_change → EnumsStand known.enums known.enums same_names true with_bound_names Shaped
 bound_stand known may_change is = record {
   has = true;
   may_change = may_change;
   lacking = λ e. absurd (true_false e);
-  exact = λ e. record { plain = refl; same = λ id. refl; all = λ id. refl; used = refl; nothing_passed = refl };
+  exact = λ e. record { plain = refl; same = λ id. refl; all = λ id. refl; used = refl };
   reads = λ n h. no_reading known.enums may_change is (with_bound_names n) n;
 }
 
 module _ (d : Known) (may_change : Bool) (is : d.enums ≡ no_enums may_change) where
-  abbrev stand : EnumsStand d.enums same_names true None with_bound_names Shaped
+  abbrev stand : EnumsStand d.enums d.enums same_names true with_bound_names Shaped
   stand = bound_stand d may_change is
 
   steps : StepsAlike (images_where Shaped with_bound_names d the_same stand)
@@ -78,7 +78,7 @@ observed_alike m shaped before behind turns options script =
     let known : Known = known_of options m in
     let none : known.enums ≡ no_enums options.ts_enum_is_mutable = bare_lacking_enums options m before in
     ap (λ n. observe n options (with_bound_names m) script) (sym (add-zero turns))
-    ∙ observe_unless (images_where Shaped with_bound_names known the_same (bound_stand known options.ts_enum_is_mutable none)) refl (steps known options.ts_enum_is_mutable none) refl refl turns options m script shaped refl
+    ∙ observe_unless (images_where Shaped with_bound_names known the_same (bound_stand known options.ts_enum_is_mutable none)) refl (steps known options.ts_enum_is_mutable none) refl refl refl turns options m script shaped refl
     (bare_lacking_enums options (with_bound_names m) behind ∙ sym none) plain_starts tt tt (none_excused _)
 
 pub runs_alike : BoundNamesRunAlike

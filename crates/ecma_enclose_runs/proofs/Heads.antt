@@ -81,12 +81,12 @@ unclosed_layers =
     rewritten_layers unclosed_node (λ x. meaning-roll (record { span = x.span; kind = x.kind; children = unclosed x.kind x.children }) ∙ heads (unclosed_node x) x.kind x.children)
 
 -- so a tree does, where nothing is known of enums
-abbrev unclosed_stand : (known : Known) (may_change : Bool) → known.enums ≡ no_enums may_change → EnumsStand known.enums same_names true None unclosed_tree (λ n. Unit {0})
+abbrev unclosed_stand : (known : Known) (may_change : Bool) → known.enums ≡ no_enums may_change → EnumsStand known.enums known.enums same_names true unclosed_tree (λ n. Unit {0})
 unclosed_stand known may_change is = record {
   has = true;
   may_change = may_change;
   lacking = λ e. absurd (true_false e);
-  exact = λ e. record { plain = refl; same = λ id. refl; all = λ id. refl; used = refl; nothing_passed = refl };
+  exact = λ e. record { plain = refl; same = λ id. refl; all = λ id. refl; used = refl };
   reads = λ n h. no_reading known.enums may_change is (unclosed_tree n) n;
 }
 
@@ -94,9 +94,9 @@ pub unclosed_runs : (turns : ℕ) (options : Config) (m : Node) (script : Script
     → observe turns options (unclosed_tree m) script ≡ observe turns options m script
 unclosed_runs turns options m script none behind =
     let known : Known = known_of options m in
-    let stand : EnumsStand known.enums same_names true None unclosed_tree (λ n. Unit {0}) = unclosed_stand known options.ts_enum_is_mutable none in
+    let stand : EnumsStand known.enums known.enums same_names true unclosed_tree (λ n. Unit {0}) = unclosed_stand known options.ts_enum_is_mutable none in
     ap (λ n. observe n options (unclosed_tree m) script) (sym (add-zero turns))
-    ∙ observe_unless (images unclosed_tree known the_same stand) refl (layers_alike unclosed_tree known the_same stand refl unclosed_layers) refl refl turns options m script tt refl (behind ∙ sym none)
+    ∙ observe_unless (images unclosed_tree known the_same stand) refl (layers_alike unclosed_tree known the_same stand refl unclosed_layers) refl refl refl turns options m script tt refl (behind ∙ sym none)
     plain_starts tt tt (none_excused _)
 
 -- ---- what goes, goes

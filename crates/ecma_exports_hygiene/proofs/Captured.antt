@@ -42,6 +42,7 @@ use Rattle.ecma_strip_scopes.specs.Staying.{staying_from, staying_seats}
 use Rattle.ecma_strip_scopes.proofs.Declared.{what-stays-is-declared}
 use Rattle.ecma_strip_scopes.proofs.Going.{only, parts-have}
 use Rattle.ecma_strip_scopes.proofs.StayingSeats.{staying-out}
+use Rattle.ecma_pipeline_meeting.proofs.PlainLists.{plain-list}
 use Rattle.ecma_pipeline_meeting.proofs.Parts.{AllPlain, plain-head, plain-out, plain-tail, sound-out}
 use Rattle.ecma_pipeline_meeting.proofs.Walks.{Each}
 use Rattle.ecma_pipeline_runs.proofs.ClearSeats.{modules-are-clear}
@@ -253,11 +254,13 @@ module _ (assignments : Bool) (free : ℕ) (tree : Node) (names : List Naming) (
       (all-in (filter stays (out-Node m.body).children) (λ id. module-names free id tree m.body m.whole m.are m.list))
       (subst Exporting same exports-of-items) (subst Rooted same (all-rooted (out-Node t.body).children (λ id. all-root id whole t.body t.whole t.are t.list))))
 
-  list-keeps : (n : Node) (k : Kind) (cs : List Node) → k ≡ kind.List → KeepAll cs → Every Keeps (export_names ((meaning_by n k (map meaning cs)).exports None))
-  list-keeps n k cs e h = subst (λ z. Every Keeps (export_names ((meaning_by n z (map meaning cs)).exports None))) (sym e) h
+  list-keeps : (n : Node) (k : Kind) (cs : List Node) → AllPlain cs → k ≡ kind.List → KeepAll cs → Every Keeps (export_names ((meaning_by n k (map meaning cs)).exports None))
+  list-keeps n k cs plain e h =
+      subst (λ z. Every Keeps (export_names ((meaning_by n z (map meaning cs)).exports None))) (sym e)
+      (subst (λ m. Every Keeps (export_names (m.exports None))) (sym (plain-list n cs plain)) h)
 
   body-keeps : Every Keeps (export_names ((meaning t.body).exports None))
-  body-keeps = subst (λ z. Every Keeps (export_names (z.exports None))) (sym (meaning_out t.body)) (list-keeps t.body (out-Node t.body).kind (out-Node t.body).children t.list items-keep)
+  body-keeps = subst (λ z. Every Keeps (export_names (z.exports None))) (sym (meaning_out t.body)) (list-keeps t.body (out-Node t.body).kind (out-Node t.body).children (plain-out t.body body-plain).1 t.list items-keep)
 
   either-keeps : (b : Bool) (n : Node) (k : Kind) → belongs sort.Module k ≡ true → Every Keeps (export_names ((cond b (no_effect n) (role_by n k (meaning t.body ∷ []))).exports None))
   either-keeps true n k e = tt

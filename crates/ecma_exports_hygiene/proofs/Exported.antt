@@ -22,6 +22,7 @@ use Rattle.ecma_runs.specs.Declarations.{all_exports, exported_from, has_no_effe
 use Rattle.ecma_runs.specs.Evaluation.{meaning, meaning_by, no_effect, role_by}
 use Rattle.ecma_runs.proofs.Layer.{meaning_out}
 use Rattle.ecma_pipeline_meeting.proofs.Items.{is_item, item-are}
+use Rattle.ecma_pipeline_meeting.proofs.PlainLists.{specifier-list}
 use Rattle.ecma_pipeline_meeting.proofs.Parts.{AllPlain, Sound, among-append, ids-append, kept, plain-head, plain-kind, plain-out, sound-out}
 use Rattle.ecma_pipeline_meeting.proofs.Patterns.{shape_out}
 use Rattle.ecma_pipeline_meeting.proofs.Variables.{has-vars, inner-kind, item_sought, var_sought}
@@ -122,7 +123,7 @@ each-none (c ∷ cs) source h =
 
 list-by : (n : Node) (k : Kind) (cs : List Node) (source : Option (List ℕ)) → is_list k ≡ true → HaveShapes (child_shapes k (shape_of count.Many sort.ExportSpecifier) (length cs)) cs
     → export_names ((meaning_by n k (map meaning cs)).exports source) ≡ []
-list-by n kind.List cs source b h = each-none cs source h
+list-by n kind.List cs source b h = ap (λ m. export_names (m.exports source)) (specifier-list n cs h) ∙ each-none cs source h
 list-by n _ cs source b h = absurd (true-false b refl)
 
 list-none : (n : Node) (source : Option (List ℕ)) → HasShape (shape_of count.Many sort.ExportSpecifier) n → export_names ((meaning n).exports source) ≡ []

@@ -1,8 +1,9 @@
 -- A tree means what it means with what it exports apart, layer by layer; and it is renamed likewise.
-use Rattle.std.proofs.Common.{◌≡◌, refl, sym, ap, ap₂, ◌∙◌, subst, subst₂, List, [], ◌∷◌, ◌++◌, map, None, Bool, true, false, cond}
+use Rattle.std.proofs.Common.{◌≡◌, refl, sym, ap, ap₂, ◌∙◌, subst, subst₂, List, [], ◌∷◌, ◌++◌, map, append_assoc, None, Bool, true, false, cond}
 use Rattle.std.proofs.lemmas.List.{append-nil}
 use Rattle.ecma_kind.specs.declared.kind.Kind.{Kind}
 use Rattle.ecma_kind.specs.declared.kind.Kind.TheVariants as kind
+use Rattle.ecma_kind.specs.declared.operators.VarDeclKind.TheVariants.{Var}
 use Rattle.ecma_kind.specs.declared.span.Span.{Span}
 use Rattle.ecma_tree.specs.declared.node.Node.{Node, Node-F, fold-roll-Node, ind-Node, out-Node, roll-Node}
 use Rattle.ecma_tree.specs.declared.node.Node.TheViews.{out-roll-Node, roll-out-Node}
@@ -12,11 +13,12 @@ use Rattle.ecma_runs.specs.State.{Id}
 use Rattle.ecma_runs.specs.Exports.{local_as}
 use Rattle.ecma_runs.specs.Meaning.{Meaning}
 use Rattle.ecma_runs.specs.Declarations.{all_declared, all_exports}
-use Rattle.ecma_runs.specs.Evaluation.{meaning_by, meaning}
+use Rattle.ecma_runs.specs.Evaluation.{variables_for, with_variables, meaning_by, meaning}
 use Rattle.ecma_runs.specs.Names.{passes_by, renamed, renamed_ident, renamed_node}
 use Rattle.ecma_runs.proofs.Kept.{AllNodes}
 use Rattle.ecma_runs.proofs.Layer.{meaning-roll, meaning_out}
 use Rattle.ecma_runs.proofs.Layers.{KeepsLayers, rewritten_layers}
+use Rattle.ecma_runs.proofs.Partless.{variables_alike}
 use Rattle.ecma_runs.proofs.Standing.{Passes, passes_parts}
 use Rattle.ecma_hygiene_runs.specs.ExportsApart.{apart, exports_apart, exports_by, exports_here, specifier_apart, specifier_by, specifiers_apart, specifiers_by}
 use Rattle.ecma_hygiene_runs.specs.KeyNames.{is_name_by}
@@ -55,9 +57,12 @@ apart-kind n =
 record SameExports (m m' : Meaning) : Type 0 where
   exports : m'.exports None ≡ m.exports None
   declared : m'.declared ≡ m.declared
+  part_names : m'.part_names ≡ m.part_names
+  merged_names : m'.merged_names ≡ m.merged_names
+  is_export : m'.is_export ≡ m.is_export
 
 itself : (m : Meaning) → SameExports m m
-itself m = record { exports = refl; declared = refl }
+itself m = record { exports = refl; declared = refl; part_names = refl; merged_names = refl; is_export = refl }
 
 rest_means : (span : Span) (name : Node) → meaning (apart span name) ≡ meaning_by (apart span name) kind.RestPat (meaning name ∷ meaning_by absent kind.Absent [] ∷ [])
 rest_means span name =
@@ -65,14 +70,14 @@ rest_means span name =
 
 specifier_means : (n n' : Node) (t : Bool) (span : Span) (name : Node) (other : Meaning) → other.is_absent ≡ false
     → SameExports (meaning_by n (kind.ExportNamedSpecifier t) (meaning name ∷ other ∷ [])) (meaning_by n' (kind.ExportNamedSpecifier t) (meaning (apart span name) ∷ other ∷ []))
-specifier_means n n' true span name other e = record { exports = refl; declared = refl }
+specifier_means n n' true span name other e = record { exports = refl; declared = refl; part_names = refl; merged_names = refl; is_export = refl }
 specifier_means n n' false span name other e =
     let r = meaning (apart span name) in
     let is = rest_means span name in
     let text : cond other.is_absent r.text other.text ≡ cond other.is_absent (meaning name).text other.text = ap (λ b. cond b r.text other.text) e ∙ sym (ap (λ b. cond b (meaning name).text other.text) e) in
     let names : r.names ≡ (meaning name).names = ap (λ m. m.names) is in
     let declared : r.declared ≡ (meaning name).declared = ap (λ m. m.declared) is ∙ append-nil (meaning name).declared in
-    record { exports = ap₂ local_as text names; declared = ap (λ ids. ids ++ (other.declared ++ [])) declared }
+    record { exports = ap₂ local_as text names; declared = ap (λ ids. ids ++ (other.declared ++ [])) declared; part_names = refl; merged_names = refl; is_export = refl }
 
 name_there : (n : Node) → is_name_by (out-Node n).kind ≡ true → (meaning n).is_absent ≡ false
 name_there n e = ap (λ m. m.is_absent) (meaning_out n) ∙ there_by n (out-Node n).kind (map meaning (out-Node n).children) e
@@ -88,21 +93,47 @@ specifier_same n (kind.ExportNamedSpecifier t) (name ∷ other ∷ []) span is =
     go false e = itself (meaning n)
 specifier_same n k cs span is = itself (meaning n)
 
-all_same : (ns : List Node) → (all_exports (map meaning (map specifier_apart ns)) None ≡ all_exports (map meaning ns) None) × (all_declared (map meaning (map specifier_apart ns)) ≡ all_declared (map meaning ns))
-all_same [] = (refl, refl)
-all_same (n ∷ ns) =
-    let same = specifier_same n (out-Node n).kind (out-Node n).children (out-Node n).span (meaning_out n) in
-    let rest = all_same ns in
-    (ap₂ (λ a b. a ++ b) same.exports rest.0, ap₂ (λ a b. a ++ b) same.declared rest.1)
+item_same : (n : Node) → SameExports (meaning n) (meaning (specifier_apart n))
+item_same n = specifier_same n (out-Node n).kind (out-Node n).children (out-Node n).span (meaning_out n)
+
+all_same : (ns : List Node) → all_declared (map meaning (map specifier_apart ns)) ≡ all_declared (map meaning ns)
+all_same [] = refl
+all_same (n ∷ ns) = ap₂ (λ a b. a ++ b) (item_same n).declared (all_same ns)
+
+-- with the variables of enums
+
+exports_append : (ms ms' : List Meaning) → all_exports (ms ++ ms') None ≡ all_exports ms None ++ all_exports ms' None
+exports_append [] ms' = refl
+exports_append (m ∷ ms) ms' = ap (λ l. m.exports None ++ l) (exports_append ms ms') ∙ sym (append_assoc (m.exports None) (all_exports ms None) (all_exports ms' None))
+
+module _ (l l' : Node) where
+  exports_same : (there : List Id) (ns : List Node) → all_exports (with_variables l' Var there (map meaning (map specifier_apart ns))) None ≡ all_exports (with_variables l Var there (map meaning ns)) None
+  exports_same there [] = refl
+  exports_same there (n ∷ ns) =
+      let m = meaning n in
+      let m' = meaning (specifier_apart n) in
+      let same = item_same n in
+      let rest' = λ (ids : List Id). with_variables l' Var (there ++ ids) (map meaning (map specifier_apart ns)) in
+      let variables = variables_for l Var m.is_export there m.part_names in
+      let rest = with_variables l Var (there ++ m.merged_names) (map meaning ns) in
+      (λ i. all_exports (variables_for l' Var (same.is_export i) there (same.part_names i) ++ (m' ∷ rest' (same.merged_names i))) None)
+      ∙ ap (λ ms. all_exports (ms ++ (m' ∷ rest' m.merged_names)) None) (variables_alike l l' Var m.is_export there m.part_names)
+      ∙ exports_append variables (m' ∷ rest' m.merged_names)
+      ∙ ap₂ (λ a b. all_exports variables None ++ (a ++ b)) same.exports (exports_same (there ++ m.merged_names) ns)
+      ∙ sym (exports_append variables (m ∷ rest))
 
 specifiers_same : (n : Node) (k : Kind) → (out-Node n).kind ≡ k → SameExports (meaning n) (meaning (specifiers_by (out-Node n) k n))
 specifiers_same n kind.List is =
     let z = out-Node n in
+    let n' = specifiers_by z kind.List n in
     let a = meaning-roll (parts_of z.span kind.List (map specifier_apart z.children)) in
     let b : meaning n ≡ meaning_by n kind.List (map meaning z.children) = meaning_out n ∙ ap (λ k. meaning_by n k (map meaning z.children)) is in
     record {
-      exports = ap (λ m. m.exports None) a ∙ (all_same z.children).0 ∙ sym (ap (λ m. m.exports None) b);
-      declared = ap (λ m. m.declared) a ∙ (all_same z.children).1 ∙ sym (ap (λ m. m.declared) b);
+      exports = ap (λ m. m.exports None) a ∙ exports_same n n' [] z.children ∙ sym (ap (λ m. m.exports None) b);
+      declared = ap (λ m. m.declared) a ∙ all_same z.children ∙ sym (ap (λ m. m.declared) b);
+      part_names = ap (λ m. m.part_names) a ∙ sym (ap (λ m. m.part_names) b);
+      merged_names = ap (λ m. m.merged_names) a ∙ sym (ap (λ m. m.merged_names) b);
+      is_export = ap (λ m. m.is_export) a ∙ sym (ap (λ m. m.is_export) b);
     }
 specifiers_same n _ is = itself (meaning n)
 

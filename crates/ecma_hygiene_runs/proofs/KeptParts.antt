@@ -15,12 +15,12 @@ abbrev pub nothing_known : Known
 nothing_known = record { declared = []; enums = no_enums false }
 
 -- enums may stand there: no read of them is known
-abbrev pub stands-anywhere : (f : Node → Node) → EnumsStand nothing_known.enums same_names true None f (λ n. Unit {0})
+abbrev pub stands-anywhere : (f : Node → Node) → EnumsStand nothing_known.enums nothing_known.enums same_names true f (λ n. Unit {0})
 stands-anywhere f = record {
   has = true;
   may_change = false;
-  lacking = λ e. refl;
-  exact = λ e. record { plain = refl; same = λ id. refl; all = λ id. refl; used = refl; nothing_passed = refl };
+  lacking = λ e. (refl, refl);
+  exact = λ e. record { plain = refl; same = λ id. refl; all = λ id. refl; used = refl };
   reads = λ n h. no_reading (no_enums false) false refl (f n) n;
 }
 

@@ -137,6 +137,7 @@ mute_same c m m' same = record {
   member = same.member;
   varied = same.varied;
   hoisted = same.hoisted;
+  module_body = same.module_body;
   last = same.last;
   effect = same.effect;
   test = same.test;
@@ -161,6 +162,10 @@ mute_same c m m' same = record {
   last_declared = same.last_declared;
   imported = same.imported;
   member_texts = same.member_texts;
+  part_names = same.part_names;
+  merged_names = same.merged_names;
+  no_part = same.no_part;
+  is_export = same.is_export;
   exports = same.exports;
   text = λ texts. refl;
   cooked = same.cooked;
@@ -203,7 +208,7 @@ module _ (to : Id → Id) (options : Config) (m : Node) (renaming : Renames to m
   abbrev change : Change
   change =
       images_named Fine (renamed to) new_names (known_of options m) renaming.free_texts the_same
-      (without_enums Fine (renamed to) new_names true None (known_of options m).enums options.ts_enum_is_mutable (lacking_enums options m renaming.no_enums))
+      (without_enums Fine (renamed to) new_names true (known_of options m).enums options.ts_enum_is_mutable (lacking_enums options m renaming.no_enums))
 
   three_all : (cs : List Node) → AllNodes (Passes renaming.stands) cs → AllNodes (λ n. TextsStay to (key_names_in n)) cs → AllNodes Lacks cs → AllNodes change.fine cs
   three_all [] p q r = tt
@@ -238,7 +243,7 @@ module _ (to : Id → Id) (options : Config) (m : Node) (renaming : Renames to m
   IsOther k cs = Unit {0}
 
   layer_kept : (k : Kind) (cs : List Node) → IsOther k cs → passes_by renaming.stands k ≡ true → AllNodes (Passes renaming.stands) cs → TextsStay to (at_names k (map key_names cs)) → not (is_enum k) ≡ true → KeptLayer change k (map meaning cs)
-  layer_kept (kind.Ident text ctxt optional) cs o h p t e = (h, renaming.this_stays (record { sym = text; ctxt = ctxt }) h)
+  layer_kept (kind.Ident text ctxt optional) cs o h p t e = (h, renaming.this_stays (record { sym = text; ctxt = ctxt }) h, λ has. refl)
   layer_kept kind.ExportDefaultExpr cs o h p t e = renaming.default_stays
   layer_kept kind.FnExpr cs o h p t e = renaming.default_stays
   layer_kept kind.ClassExpr cs o h p t e = renaming.default_stays
@@ -265,6 +270,7 @@ module _ (to : Id → Id) (options : Config) (m : Node) (renaming : Renames to m
   layer_kept kind.SetterProp (key ∷ this_parameter ∷ parameter ∷ body ∷ []) o h p t e = still parameter body p.1.1.1.0
   layer_kept (kind.Constructor accessibility is_optional) (key ∷ parameters ∷ body ∷ []) o h p t e = still parameters body p.1.1.0
   layer_kept (kind.TsEnumDecl false is_const) cs o h p t e = absurd (cc)
+  layer_kept kind.TsEnumMember cs o h p t e = absurd (cc)
   layer_kept _ cs o h p t e = tt
 
   renamed_layer : (x : Node-F Node) → meaning (renamed to (roll-Node x)) ≡ meaning_by (renamed to (roll-Node x)) (renamed_kind change x.kind) (map meaning (map (renamed to) x.children))
@@ -313,6 +319,6 @@ module _ (to : Id → Id) (options : Config) (m : Node) (renaming : Renames to m
   pub renamed_kept : (turns : ℕ) (script : Script) → observe turns options (renamed to m) script ≡ observe turns options m script
   renamed_kept turns script =
       ap (λ n. observe n options (renamed to m) script) (sym (add-zero turns))
-      ∙ observe_unless change refl renaming_steps refl refl turns options m script (renaming.all_stand, renaming.key_texts, renaming.no_enums) refl (renamed-none to options m renaming.no_enums)
+      ∙ observe_unless change refl renaming_steps refl refl refl turns options m script (renaming.all_stand, renaming.key_texts, renaming.no_enums) refl (renamed-none to options m renaming.no_enums)
       (tt, record { free = tt }, tt, keeps_plain new_names refl (ids_of (meaning m).locals) (exports_in m) ((declares renaming.stands m renaming.all_stand).exports None renaming.default_stays.0) renaming.export_texts)
       tt tt (none_excused _)

@@ -1,8 +1,9 @@
 -- The variables of a module are among the ids that it declares, but for the one of a default export.
-use Rattle.std.proofs.Common.{◌≡◌, ℕ, suc, Bool, true, false, ◌||◌, codes, cond, refl, sym, ap, subst, List, [], ◌∷◌, ◌++◌, map, length, replicate, Option, Some, None, slice_get}
+use Rattle.std.proofs.Common.{◌≡◌, ℕ, suc, Bool, true, false, ◌||◌, codes, cond, refl, sym, ap, ◌∙◌, subst, List, [], ◌∷◌, ◌++◌, map, length, replicate, Option, Some, None, slice_get}
 use Rattle.ecma_kind.specs.Sorts.{belongs}
 use Rattle.ecma_kind.specs.declared.kind.Kind.{Kind}
 use Rattle.ecma_kind.specs.declared.kind.Kind.TheVariants as kind
+use Rattle.ecma_kind.specs.declared.operators.VarDeclKind.{VarDeclKind}
 use Rattle.ecma_kind.specs.declared.operators.VarDeclKind.TheVariants.{Const, Let, Var}
 use Rattle.ecma_kind.specs.declared.shapes.Shape.{Shape}
 use Rattle.ecma_kind.specs.declared.shapes.Sort.TheVariants as sort
@@ -11,9 +12,9 @@ use Rattle.ecma_tree.specs.Sorted.{HasShape, HasSort, child_shapes, many, one}
 use Rattle.ecma_tree.specs.declared.node.Node.{Node, out-Node}
 use Rattle.ecma_forest.proofs.Induction.{by_children}
 use Rattle.ecma_rewriting.proofs.Equations.{list-kind}
-use Rattle.ecma_runs.specs.Declarations.{all_declared, all_imported, all_lexicals, all_names, all_vars, declared_of, default_names_of, has_no_effect, imported_as, imported_from, imported_of, lexicals_of, vars_of}
-use Rattle.ecma_runs.specs.Environment.{empty, ids_of, import_of, is_among, undefined, unfilled}
-use Rattle.ecma_runs.specs.Evaluation.{constant_meaning, meaning, meaning_by, no_effect, role_by, set_export}
+use Rattle.ecma_runs.specs.Declarations.{all_declared, all_imported, all_lexicals, all_names, all_vars, declared_of, default_names_of, has_no_effect, imported_as, imported_from, imported_of, lexicals_of, locals_of, part_names_of, vars_of}
+use Rattle.ecma_runs.specs.Environment.{empty, ids_of, import_of, is_among, undefined}
+use Rattle.ecma_runs.specs.Evaluation.{constant_meaning, exported_if, list_meaning, meaning, meaning_by, no_effect, role_by, set_export, variable_declared, variables_for, with_variables}
 use Rattle.ecma_runs.specs.Meaning.{Meaning}
 use Rattle.ecma_runs.specs.State.{Binding, Id, default_name, same_id}
 use Rattle.ecma_runs.proofs.Layer.{meaning_out}
@@ -101,6 +102,8 @@ pub record Covers (m : Meaning) : Type 0 where
   pub lexicals : Sub (ids_of m.lexicals) (or_default m.declared)
   pub imported : (source : List ℕ) → Sub (ids_of (m.imported source)) m.declared
   pub default_names : Sub m.default_names (or_default m.declared)
+  pub part_names : Sub m.part_names m.declared
+  pub locals : Sub (ids_of m.locals) (or_default m.declared)
 
 abbrev AllCover : List Meaning → Type 0
 AllCover [] = Unit
@@ -183,8 +186,6 @@ lexicals-by kind.ExportDecl (d ∷ []) c named = more-default (ids_of d.lexicals
 lexicals-by kind.ExportDefaultExpr (e ∷ []) c named = λ id h. either (same_id default_name id) false (or-first (same_id default_name id) (is_among id (e.declared ++ []))) (λ g. no g) h
 lexicals-by kind.ExportDefaultDecl (d ∷ []) c named =
     sub-made (empty false) (λ id. refl) d.default_names (or_default (d.declared ++ [])) (more-default d.default_names d.declared (d.declared ++ []) c.0.default_names (sub-left d.declared []))
-lexicals-by (kind.TsEnumDecl false is_const) (name ∷ members ∷ []) c named =
-    sub-made unfilled (λ id. refl) name.names (or_default (name.names ++ members.declared)) (sub-default name.names (name.names ++ members.declared) (sub-left name.names members.declared))
 lexicals-by k ms c named = sub-nil (or_default (declared_of k ms))
 
 as-by : (o : Option (List ℕ)) (source : List ℕ) (ids : List Id) → Sub (ids_of (imported_as o source ids)) ids
@@ -207,8 +208,122 @@ default-by kind.FnExpr (name ∷ function ∷ []) = own-by name.is_absent name.n
 default-by kind.ClassExpr (name ∷ class ∷ []) = own-by name.is_absent name.names class.declared
 default-by k ms = sub-nil (or_default (declared_of k ms))
 
+parts-by : (k : Kind) (ms : List Meaning) → AllCover ms → Sub (part_names_of k ms) (declared_of k ms)
+parts-by (kind.TsEnumDecl false is_const) (name ∷ members ∷ []) c = sub-left name.names members.declared
+parts-by kind.ExportDecl (d ∷ []) c = sub-before d.part_names d.declared [] c.0.part_names
+parts-by k ms c = sub-nil (declared_of k ms)
+
+-- the variables of a body are those of its list
+both-cover : (m : Meaning) (others : List Id) → Covers m → Sub (ids_of (m.vars ++ m.lexicals)) (or_default (m.declared ++ others))
+both-cover m others c =
+    let ids = m.declared ++ others in
+    sub-both m.vars m.lexicals (or_default ids) (sub-default (ids_of m.vars) ids (sub-before (ids_of m.vars) m.declared others c.vars))
+    (more-default (ids_of m.lexicals) m.declared ids c.lexicals (sub-left m.declared others))
+
+locals-by : (k : Kind) (ms : List Meaning) → AllCover ms → Named k ms → Sub (ids_of (locals_of k ms)) (or_default (declared_of k ms))
+locals-by (kind.Module shebang) (body ∷ []) c named =
+    more-default (ids_of body.locals) body.declared (body.declared ++ body.last_declared) c.0.locals (sub-left body.declared body.last_declared)
+locals-by kind.List ms c named = sub-both (all_vars ms) (all_lexicals ms) (or_default (all_declared ms)) (sub-default (ids_of (all_vars ms)) (all_declared ms) (vars-all ms c)) (lexicals-all ms c)
+locals-by kind.BlockStmt (statements ∷ []) c named = both-cover statements [] c.0
+locals-by k ms c named = sub-nil (or_default (declared_of k ms))
+
 role-covers : (n : Node) (k : Kind) (ms : List Meaning) → AllCover ms → Named k ms → Covers (role_by n k ms)
-role-covers n k ms c named = record { vars = vars-by k ms c named; lexicals = lexicals-by k ms c named; imported = λ source. imported-by k ms source c; default_names = default-by k ms }
+role-covers n k ms c named = record {
+  vars = vars-by k ms c named;
+  lexicals = lexicals-by k ms c named;
+  imported = λ source. imported-by k ms source c;
+  default_names = default-by k ms;
+  part_names = parts-by k ms c;
+  locals = locals-by k ms c named;
+}
+
+-- ---- lists, with the variables of enums
+
+module _ (n : Node) (word : VarDeclKind) where
+  lexicals-one : (e : Bool) (id : Id) → Sub (ids_of (exported_if n e (variable_declared n word id)).lexicals) (id ∷ [])
+  lexicals-one true id = word-lexicals word
+    where
+      word-lexicals : (w : VarDeclKind) → Sub (ids_of (variable_declared n w id).lexicals) (id ∷ [])
+      word-lexicals Var = sub-nil (id ∷ [])
+      word-lexicals Let = λ i h. h
+      word-lexicals Const = λ i h. h
+  lexicals-one false id = word-lexicals word
+    where
+      word-lexicals : (w : VarDeclKind) → Sub (ids_of (variable_declared n w id).lexicals) (id ∷ [])
+      word-lexicals Var = sub-nil (id ∷ [])
+      word-lexicals Let = λ i h. h
+      word-lexicals Const = λ i h. h
+
+  vars-one : (e : Bool) (id : Id) → Sub (ids_of (exported_if n e (variable_declared n word id)).vars) (id ∷ [])
+  vars-one true id = word-vars word
+    where
+      word-vars : (w : VarDeclKind) → Sub (ids_of (variable_declared n w id).vars) (id ∷ [])
+      word-vars Var = λ i h. h
+      word-vars Let = sub-nil (id ∷ [])
+      word-vars Const = sub-nil (id ∷ [])
+  vars-one false id = word-vars word
+    where
+      word-vars : (w : VarDeclKind) → Sub (ids_of (variable_declared n w id).vars) (id ∷ [])
+      word-vars Var = λ i h. h
+      word-vars Let = sub-nil (id ∷ [])
+      word-vars Const = sub-nil (id ∷ [])
+
+  -- of a role that lists variables
+  module _ (of : Meaning → List Binding) (all : List Meaning → List Binding) (none : all [] ≡ []) (more : (m : Meaning) (ms : List Meaning) → all (m ∷ ms) ≡ of m ++ all ms)
+      (one-id : (e : Bool) (id : Id) → Sub (ids_of (of (exported_if n e (variable_declared n word id)))) (id ∷ [])) where
+    all-more : (m : Meaning) (ms : List Meaning) (zs : List Id) → Sub (ids_of (of m)) zs → Sub (ids_of (all ms)) zs → Sub (ids_of (all (m ∷ ms))) zs
+    all-more m ms zs f g = sub-from (ids_of (all (m ∷ ms))) (ids_of (of m ++ all ms)) zs (ap ids_of (more m ms)) (sub-both (of m) (all ms) zs f g)
+
+    all-behind : (ms ms' : List Meaning) (zs : List Id) → Sub (ids_of (all ms)) zs → Sub (ids_of (all ms')) zs → Sub (ids_of (all (ms ++ ms'))) zs
+    all-behind [] ms' zs f g = g
+    all-behind (m ∷ ms) ms' zs f g =
+        let parts = sub-from (ids_of (of m) ++ ids_of (all ms)) (ids_of (all (m ∷ ms))) zs (sym (ap ids_of (more m ms) ∙ ids-append (of m) (all ms))) f in
+        all-more m (ms ++ ms') zs (sub-then (ids_of (of m)) (ids_of (of m) ++ ids_of (all ms)) zs (sub-left (ids_of (of m)) (ids_of (all ms))) parts)
+        (all-behind ms ms' zs (sub-then (ids_of (all ms)) (ids_of (of m) ++ ids_of (all ms)) zs (sub-right (ids_of (of m)) (ids_of (all ms))) parts) g)
+
+    variables-sub : (e : Bool) (there ids : List Id) → Sub (ids_of (all (variables_for n word e there ids))) ids
+    variables-sub e there [] = sub-from (ids_of (all [])) [] [] (ap ids_of none) (sub-nil [])
+    variables-sub e there (id ∷ ids) = chosen (is_among id there)
+      where
+        rest : Sub (ids_of (all (variables_for n word e there ids))) (id ∷ ids)
+        rest = sub-then (ids_of (all (variables_for n word e there ids))) ids (id ∷ ids) (variables-sub e there ids) (sub-right (id ∷ []) ids)
+
+        chosen : (b : Bool) → Sub (ids_of (all (cond b (variables_for n word e there ids) (exported_if n e (variable_declared n word id) ∷ variables_for n word e there ids)))) (id ∷ ids)
+        chosen true = rest
+        chosen false =
+            all-more (exported_if n e (variable_declared n word id)) (variables_for n word e there ids) (id ∷ ids)
+            (sub-then (ids_of (of (exported_if n e (variable_declared n word id)))) (id ∷ []) (id ∷ ids) (one-id e id) (sub-left (id ∷ []) ids)) rest
+
+    listed-sub : (f : List Id → List Id) → ((xs ys : List Id) → Sub xs ys → Sub xs (f ys)) → ((xs ys zs : List Id) → Sub xs (f ys) → Sub ys zs → Sub xs (f zs)) → ((m : Meaning) → Covers m → Sub (ids_of (of m)) (f m.declared))
+        → (there : List Id) (ms : List Meaning) → AllCover ms → Sub (ids_of (all (with_variables n word there ms))) (f (all_declared ms))
+    listed-sub f into wider own there [] c = sub-from (ids_of (all [])) [] (f []) (ap ids_of none) (sub-nil (f []))
+    listed-sub f into wider own there (m ∷ ms) c =
+        let ids = m.declared ++ all_declared ms in
+        let rest = with_variables n word (there ++ m.merged_names) ms in
+        let parts = sub-then (ids_of (all (variables_for n word m.is_export there m.part_names))) m.part_names ids (variables-sub m.is_export there m.part_names) (sub-before m.part_names m.declared (all_declared ms) c.0.part_names) in
+        all-behind (variables_for n word m.is_export there m.part_names) (m ∷ rest) (f ids) (into (ids_of (all (variables_for n word m.is_export there m.part_names))) ids parts)
+        (all-more m rest (f ids) (wider (ids_of (of m)) m.declared ids (own m c.0) (sub-left m.declared (all_declared ms)))
+        (wider (ids_of (all rest)) (all_declared ms) ids (listed-sub f into wider own (there ++ m.merged_names) ms c.1) (sub-right m.declared (all_declared ms))))
+
+  lexicals-listed : (there : List Id) (ms : List Meaning) → AllCover ms → Sub (ids_of (all_lexicals (with_variables n word there ms))) (or_default (all_declared ms))
+  lexicals-listed = listed-sub (λ m. m.lexicals) all_lexicals refl (λ m ms. refl) lexicals-one or_default sub-default more-default (λ m c. c.lexicals)
+
+  vars-listed : (there : List Id) (ms : List Meaning) → AllCover ms → Sub (ids_of (all_vars (with_variables n word there ms))) (all_declared ms)
+  vars-listed = listed-sub (λ m. m.vars) all_vars refl (λ m ms. refl) vars-one (λ ids. ids) (λ xs ys f. f) sub-then (λ m c. c.vars)
+
+list-covers : (n : Node) (ms : List Meaning) → AllCover ms → Covers (list_meaning n ms)
+list-covers n ms c =
+    let covers : Covers (role_by n kind.List ms) = role-covers n kind.List ms c tt in
+    let vars = all_vars (with_variables n Var [] ms) in
+    let lexicals = all_lexicals (with_variables n Var [] ms) in
+    record {
+      vars = covers.vars;
+      lexicals = lexicals-listed n Let [] ms c;
+      imported = covers.imported;
+      default_names = covers.default_names;
+      part_names = covers.part_names;
+      locals = sub-both vars lexicals (or_default (all_declared ms)) (sub-default (ids_of vars) (all_declared ms) (vars-listed n Var [] ms c)) (lexicals-listed n Var [] ms c);
+    }
 
 -- ---- each meaning
 
@@ -229,13 +344,16 @@ constant-covers n name value =
           (sub-nil ids)));
       imported = λ source. sub-nil ids;
       default_names = sub-nil (or_default ids);
+      part_names = sub-nil ids;
+      locals = sub-nil (or_default ids);
     }
 
 export-covers : (n : Node) (m : Meaning) → Covers m → Covers (role_by n kind.ExportDecl (m ∷ []))
 export-covers n m c = role-covers n kind.ExportDecl (m ∷ []) (c, tt) tt
 
 by-covers : (n : Node) (k : Kind) (ms : List Meaning) → AllCover ms → Named k ms → Covers (meaning_by n k ms)
-by-covers n kind.ParenExpr (e ∷ []) c named = record { vars = c.0.vars; lexicals = c.0.lexicals; imported = c.0.imported; default_names = c.0.default_names }
+by-covers n kind.ParenExpr (e ∷ []) c named =
+    record { vars = c.0.vars; lexicals = c.0.lexicals; imported = c.0.imported; default_names = c.0.default_names; part_names = c.0.part_names; locals = c.0.locals }
 by-covers n kind.TsAsExpr (e ∷ type ∷ []) c named = c.0
 by-covers n kind.TsTypeAssertion (e ∷ type ∷ []) c named = c.0
 by-covers n kind.TsConstAssertion (e ∷ []) c named = c.0
@@ -250,12 +368,13 @@ by-covers n (kind.TsImportEqualsDecl false false) (name ∷ source ∷ []) c nam
 by-covers n (kind.TsImportEqualsDecl true false) (name ∷ source ∷ []) c named =
     either-covers source.is_required (constant_meaning n name (set_export n name source)) (role_by n kind.ExportDecl (constant_meaning n name source ∷ []))
     (constant-covers n name (set_export n name source)) (export-covers n (constant_meaning n name source) (constant-covers n name source))
+by-covers n kind.List ms c named = list-covers n ms c
 by-covers n (kind.TsEnumDecl false is_const) (name ∷ members ∷ []) c named =
     let covers : Covers (role_by n (kind.TsEnumDecl false is_const) (name ∷ members ∷ [])) = role-covers n (kind.TsEnumDecl false is_const) (name ∷ members ∷ []) c tt in
-    record { vars = covers.vars; lexicals = covers.lexicals; imported = covers.imported; default_names = covers.default_names }
+    record { vars = covers.vars; lexicals = covers.lexicals; imported = covers.imported; default_names = covers.default_names; part_names = covers.part_names; locals = covers.locals }
 by-covers n kind.TsEnumMember (name ∷ init ∷ []) c named =
     let covers : Covers (role_by n kind.TsEnumMember (name ∷ init ∷ [])) = role-covers n kind.TsEnumMember (name ∷ init ∷ []) c tt in
-    record { vars = covers.vars; lexicals = covers.lexicals; imported = covers.imported; default_names = covers.default_names }
+    record { vars = covers.vars; lexicals = covers.lexicals; imported = covers.imported; default_names = covers.default_names; part_names = covers.part_names; locals = covers.locals }
 by-covers n k ms c named =
     either-covers (has_no_effect k ms) (no_effect n) (role_by n k ms) (role-covers n (kind.TsTypeAliasDecl false) [] tt tt) (role-covers n k ms c named)
 
@@ -317,11 +436,8 @@ module-by : (n : Node) (k : Kind) (cs : List Node) → belongs sort.Module k ≡
     → Sub (ids_of (meaning_by n k (map meaning cs)).locals) (or_default (meaning_by n k (map meaning cs)).declared)
 module-by n (kind.Module shebang) [] b h = absurd h
 module-by n (kind.Module shebang) (body ∷ []) b h =
-    let c = covered body (many sort.ModuleItem) h.0 in
     let m = meaning body in
-    let ids = m.declared ++ m.last_declared in
-    sub-both m.vars m.lexicals (or_default ids) (sub-default (ids_of m.vars) ids (sub-before (ids_of m.vars) m.declared m.last_declared c.vars))
-    (more-default (ids_of m.lexicals) m.declared ids c.lexicals (sub-left m.declared m.last_declared))
+    more-default (ids_of m.locals) m.declared (m.declared ++ m.last_declared) (covered body (many sort.ModuleItem) h.0).locals (sub-left m.declared m.last_declared)
 module-by n (kind.Module shebang) (body ∷ c ∷ cs) b h = absurd h.1
 module-by n _ cs b h = no b
 

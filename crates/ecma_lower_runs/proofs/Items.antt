@@ -112,6 +112,7 @@ module _ (x : ExecutionContext) where
     pub hoisted : m'.hoisted x ≡ m.hoisted x
     pub vars : m'.vars ≡ m.vars
     pub lexicals : m'.lexicals ≡ m.lexicals
+    pub part_names : m'.part_names ≡ m.part_names
     pub exports : m'.exports None ≡ m.exports None
 
   -- and of each that is done where it stands
@@ -123,7 +124,7 @@ module _ (x : ExecutionContext) where
     pub done_behind : IsDone m'
 
   pub stands-same : (m : Meaning) → StandsAlike m m
-  stands-same m = record { hoisted = refl; vars = refl; lexicals = refl; exports = refl }
+  stands-same m = record { hoisted = refl; vars = refl; lexicals = refl; part_names = refl; exports = refl }
 
   remains-same : (m : Meaning) → IsDone m → RemainsAlike m m
   remains-same m done = record { stands = stands-same m; completion = refl; declared = refl; done = done; done_behind = done }
@@ -134,7 +135,7 @@ module _ (x : ExecutionContext) where
   -- constants whose right sides give the same
   constant-remains : (n : Node) (a b v : Meaning) → GivesAlike x b v → RemainsAlike (constant_meaning n a b) (constant_meaning n a v)
   constant-remains n a b v alike = record {
-    stands = record { hoisted = refl; vars = refl; lexicals = refl; exports = refl };
+    stands = record { hoisted = refl; vars = refl; lexicals = refl; part_names = refl; exports = refl };
     completion = ap (λ (r : Run Value). (r >>= λ w. initialize x.scope a.names w) >>= λ _. give tt) alike.initial;
     declared = ap (λ (ids : List Id). ((a.names ++ ((a.declared ++ ([] ++ [])) ++ ids)) ++ []) ++ []) alike.declared;
     done = record { last = refl; last_declared = refl };
@@ -145,7 +146,7 @@ module _ (x : ExecutionContext) where
   exported-remains n a b v alike =
       let inner = constant-remains n a b v alike in
       record {
-        stands = record { hoisted = refl; vars = refl; lexicals = refl; exports = refl };
+        stands = record { hoisted = refl; vars = refl; lexicals = refl; part_names = refl; exports = refl };
         completion = inner.completion;
         declared = ap (λ (ids : List Id). ids ++ []) inner.declared;
         done = record { last = refl; last_declared = refl };
@@ -267,6 +268,7 @@ module _ (x : ExecutionContext) where
         pub hoisted : m.hoisted x ≡ give tt
         pub vars : m.vars ≡ []
         pub lexicals : m.lexicals ≡ []
+        pub part_names : m.part_names ≡ []
         pub declared : m.declared ≡ []
         pub exports : m.exports None ≡ []
 
@@ -279,6 +281,7 @@ module _ (x : ExecutionContext) where
             hoisted = ap (λ (m : Meaning). m.hoisted x) behind ∙ sym (ap (λ (m : Meaning). m.hoisted x) read);
             vars = ap (λ (m : Meaning). m.vars) behind ∙ sym (ap (λ (m : Meaning). m.vars) read);
             lexicals = ap (λ (m : Meaning). m.lexicals) behind ∙ sym (ap (λ (m : Meaning). m.lexicals) read);
+            part_names = ap (λ (m : Meaning). m.part_names) behind ∙ sym (ap (λ (m : Meaning). m.part_names) read);
             exports = ap (λ (m : Meaning). m.exports None) behind ∙ sym (ap (λ (m : Meaning). m.exports None) read);
           }
 
@@ -291,6 +294,7 @@ module _ (x : ExecutionContext) where
             hoisted = ap (λ (m : Meaning). m.hoisted x) read;
             vars = ap (λ (m : Meaning). m.vars) read;
             lexicals = ap (λ (m : Meaning). m.lexicals) read;
+            part_names = ap (λ (m : Meaning). m.part_names) read;
             declared = ap (λ (m : Meaning). m.declared) read;
             exports = ap (λ (m : Meaning). m.exports None) read;
           }

@@ -80,7 +80,7 @@ constants-mean n span a v =
     let inner = role_by n (kind.VarDeclarator false) (role_by n kind.BindingIdent (meaning a ∷ role_by n kind.Absent [] ∷ []) ∷ meaning v ∷ []) in
     means span (kind.VarDecl Const false) (list ∷ [])
     ∙ ap (λ (m : Meaning). role_by whole (kind.VarDecl Const false) (m ∷ []))
-    (means dummy_span kind.List (declarator a v ∷ []) ∙ ap (λ (m : Meaning). role_by list kind.List (m ∷ [])) (declarator-means n a v) ∙ list-role list n (inner ∷ []))
+    (means dummy_span kind.List (declarator a v ∷ []) ∙ ap (λ (m : Meaning). meaning_by list kind.List (m ∷ [])) (declarator-means n a v) ∙ list-role list n (inner ∷ []))
     ∙ constant-role whole n (role_by n kind.List (inner ∷ []) ∷ [])
 
 -- whatever node is said to mean it

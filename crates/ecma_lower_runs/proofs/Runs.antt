@@ -1,25 +1,29 @@
 -- A module with its assignments lowered is observed to do what it did.
-use Rattle.std.proofs.Common.{◌≡◌, ◌∙◌, inl, inr, ℕ, Bool, true, false, ◌==◌, ◌||◌, ◌&&◌, not, codes, nat_eq, bytes_eq, refl, sym, ap, ap₂, subst, List, [], ◌∷◌, ◌++◌, map, Option, Some, None}
+use Rattle.std.proofs.Common.{◌≡◌, ◌∙◌, inl, inr, ℕ, Bool, true, false, ◌==◌, ◌||◌, ◌&&◌, not, codes, nat_eq, bytes_eq, refl, sym, ap, ap₂, subst, List, [], ◌∷◌, ◌++◌, map, length, Option, Some, None}
 use Rattle.std.specs.List.{list_all}
 use Rattle.ecma_config.specs.declared.config.Config.{Config}
 use Rattle.ecma_config.specs.declared.config.TsImportExportAssignConfig.{TsImportExportAssignConfig}
 use Rattle.ecma_config.specs.declared.config.TsImportExportAssignConfig.TheVariants as way
+use Rattle.ecma_kind.specs.declared.kind.Kind.{Kind}
 use Rattle.ecma_kind.specs.declared.kind.Kind.TheVariants as kind
 use Rattle.ecma_kind.specs.declared.shapes.Sort.TheVariants as sort
 use Rattle.ecma_kind.specs.declared.span.Span.{Span}
-use Rattle.ecma_tree.specs.Sorted.{HasSort}
+use Rattle.ecma_tree.specs.Laws.{HaveShapes}
+use Rattle.ecma_tree.specs.Sorted.{HasSort, child_shapes, one}
 use Rattle.ecma_tree.specs.declared.node.Node.{Node}
 use Rattle.ecma_runs.specs.declared.script.Script.{Script}
 use Rattle.ecma_runs.specs.Declarations.{all_declared, all_exports, all_last_declared, all_lexicals, all_vars}
-use Rattle.ecma_runs.specs.Environment.{ToFree, ToVariable, filled, ids_of, is_among, new_environment, resolved}
-use Rattle.ecma_runs.specs.Evaluation.{meaning, meaning_by}
+use Rattle.ecma_runs.specs.Environment.{ToFree, ToVariable, ids_of, is_among, new_environment, resolved}
+use Rattle.ecma_runs.specs.Evaluation.{meaning, meaning_by, role_by}
 use Rattle.ecma_runs.specs.Exports.{Exported}
 use Rattle.ecma_runs.specs.Expressions.{named}
-use Rattle.ecma_runs.proofs.Names.{ids_of-filled}
 use Rattle.ecma_runs.specs.Host.{provided_by}
 use Rattle.ecma_runs.specs.Meaning.{ExecutionContext, Known, Meaning}
 use Rattle.ecma_runs.specs.Enums.{Enums, bare, enum_of, is_hidden, lacks_enums, no_enums}
-use Rattle.ecma_runs.proofs.EnumTrees.{bare_lacking_enums}
+use Rattle.ecma_runs.proofs.BareLists.{ExportsDeclaration, IsPlainItem, module_partless}
+use Rattle.ecma_runs.proofs.EnumTrees.{bare-roll, bare_lacking_enums}
+use Rattle.ecma_runs.proofs.Kept.{AllNodes}
+use Rattle.ecma_runs.proofs.Partless.{Partless, list_is}
 use Rattle.ecma_runs.specs.Observation.{enums_of, known_of, module_activation, module_context, observe, observed, run_actions, shown_to_host, start}
 use Rattle.ecma_runs.specs.Run.{◌>>=◌, give, outside, when}
 use Rattle.ecma_runs.specs.State.{Binding, Entered, Id, default_name, same_id}
@@ -34,7 +38,7 @@ use Rattle.ecma_lower.specs.Names.{names_of}
 use Rattle.ecma_lower.proofs.Singles.{write}
 use Rattle.ecma_lower_strip.proofs.Lists.{AreItems}
 use Rattle.ecma_lower_strip.proofs.Modules.{as_list, as_module, module-form, module-lowered}
-use Rattle.ecma_strip_rewriting.proofs.PlainKinds.{no}
+use Rattle.ecma_strip_rewriting.proofs.PlainKinds.{no, shape-out}
 use Rattle.ecma_lower_runs.specs.Laws.{DeclaresNone, LoweredTreesDeclareAlike, LoweredTreesRunAlike}
 use Rattle.ecma_lower_runs.proofs.Assigning.{AreFree, IsFree}
 use Rattle.ecma_lower_runs.proofs.Declared.{locals-declared, or_default}
@@ -50,7 +54,7 @@ module _ (turns : ℕ) (options : Config) (script : Script) where
 
   -- the context of the run of a module
   abbrev pub at_run : Node → ExecutionContext
-  at_run n = context (known_of options n) (record { place = 0; ids = ids_of (map filled (meaning n).locals) })
+  at_run n = context (known_of options n) (record { place = 0; ids = ids_of (meaning n).locals })
 
   pub record RunsAt (n m : Node) : Type 0 where
     pub locals : (meaning m).locals ≡ (meaning n).locals
@@ -64,14 +68,14 @@ module _ (turns : ℕ) (options : Config) (script : Script) where
   observed-at n m same =
       (λ i. let known : Known = record { declared = same.declared i; enums = same.enums i } in
       observed
-      ((new_environment (map filled (same.locals i)) (Some module_activation) >>= λ place.
+      ((new_environment (same.locals i) (Some module_activation) >>= λ place.
       shown_to_host ((meaning m).hoisted (context known place) >>= λ _. (meaning m).completion (context known place) >>= λ _. give Undefined) >>= λ outcome.
       run_actions (context known place) (same.exports i) script.actions outcome)
       (start turns script)))
       ∙ (λ i. observed
       ((shown_to_host (same.hoisted i >>= λ _. same.completion i >>= λ _. give Undefined) >>= λ outcome.
       run_actions (at_run n) ((meaning n).exports None) script.actions outcome)
-      (record (start turns script) { environments = record { bindings = map filled (meaning n).locals; activation = Some module_activation } ∷ [] })))
+      (record (start turns script) { environments = record { bindings = (meaning n).locals; activation = Some module_activation } ∷ [] })))
 
 -- ---- names that are free there
 
@@ -123,9 +127,41 @@ module _ (free : ℕ) (text : List ℕ) where
     free-there h =
         let declared = none-among (meaning tree).declared none in
         let local = not-among (ids_of (meaning tree).locals) (or_default (meaning tree).declared) (locals-declared tree sorted) (none-default h (meaning tree).declared declared) in
-        let outer = ap (is_among id) (ids_of-filled (meaning tree).locals) ∙ local in
+        let outer = local in
         (λ i. named (no-member i) id there) ∙ (λ i. when (not-hidden i) outside (resolved there.scope there.known.declared id))
         ∙ (λ i. when (outer i) (give (ToVariable 0 id)) (when (declared i) outside (give (ToFree text))))
+
+-- ---- parts of enums
+
+no-parts : (xs ys : List Id) → xs ++ ys ≡ [] → (xs ≡ []) × (ys ≡ [])
+no-parts [] ys e = (refl, e)
+no-parts (x ∷ xs) ys e = absurd (cc)
+
+gathered-partless : (ns : List Node) → gather (lists Id) (λ n. (meaning n).part_names) ns ≡ [] → Partless (map meaning ns)
+gathered-partless [] e = tt
+gathered-partless (n ∷ ns) e = let both = no-parts (meaning n).part_names (gather (lists Id) (λ n. (meaning n).part_names) ns) e in (both.0, gathered-partless ns both.1)
+
+partless-gathered : (ns : List Node) → Partless (map meaning ns) → gather (lists Id) (λ n. (meaning n).part_names) ns ≡ []
+partless-gathered [] none = refl
+partless-gathered (n ∷ ns) none = ap₂ (λ (a b : List Id). a ++ b) none.0 (partless-gathered ns none.1)
+
+-- an item, and what one exports, is as its sort says
+item-plain : (n : Node) → IsItem n → IsPlainItem n
+item-plain n h = let s = shape-out n (one sort.ModuleItem) h in (s.0, by (out-Node n).kind (out-Node n).children s.1)
+  where
+    by : (k : Kind) (cs : List Node) → HaveShapes (child_shapes k (one sort.ModuleItem) (length cs)) cs → ExportsDeclaration k cs
+    by kind.ExportDecl (d ∷ []) hs = (shape-out d (one sort.Decl) hs.0).0
+    by kind.ExportDecl [] hs = absurd hs
+    by kind.ExportDecl (d ∷ e ∷ ds) hs = absurd hs.1
+    by _ cs hs = tt
+
+items-plain : (ns : List Node) → AreItems ns → AllNodes IsPlainItem ns
+items-plain [] h = tt
+items-plain (n ∷ ns) h = (item-plain n h.0, items-plain ns h.1)
+
+module-is-partless : (span : Span) (shebang : Option (List ℕ)) (place : Span) (ns : List Node) → AreItems ns → lacks_enums (bare (as_module span shebang place ns)) ≡ true → Partless (map meaning ns)
+module-is-partless span shebang place ns h lacks =
+    module_partless span place (kind.Module shebang) ns (bare-roll (record { span = span; kind = kind.Module shebang; children = as_list span shebang place ns ∷ [] })) (items-plain ns h) lacks
 
 -- ---- a module, by what is made of its items
 
@@ -172,21 +208,25 @@ module _ (span : Span) (shebang : Option (List ℕ)) (place : Span) where
   whole-means : (ns : List Node) → meaning (whole ns) ≡ meaning_by (whole ns) (kind.Module shebang) (meaning_by (items ns) kind.List (map meaning ns) ∷ [])
   whole-means ns = means span (kind.Module shebang) (items ns ∷ []) ∙ ap (λ (m : Meaning). meaning_by (whole ns) (kind.Module shebang) (m ∷ [])) (means place kind.List ns)
 
-  locals-whole : (ns : List Node) → (meaning (whole ns)).locals ≡ gather (lists Binding) (λ n. (meaning n).vars) ns ++ gather (lists Binding) (λ n. (meaning n).lexicals) ns
-  locals-whole ns = ap (λ (m : Meaning). m.locals) (whole-means ns) ∙ ap₂ (λ (a b : List Binding). a ++ b) (vars-of ns) (lexicals-of ns)
+  -- a list without parts of enums has no variables for them
+  plain-means : (ns : List Node) → Partless (map meaning ns) → meaning (whole ns) ≡ meaning_by (whole ns) (kind.Module shebang) (role_by (items ns) kind.List (map meaning ns) ∷ [])
+  plain-means ns none = whole-means ns ∙ ap (λ (m : Meaning). meaning_by (whole ns) (kind.Module shebang) (m ∷ [])) (list_is (items ns) (map meaning ns) none)
+
+  locals-whole : (ns : List Node) → Partless (map meaning ns) → (meaning (whole ns)).locals ≡ gather (lists Binding) (λ n. (meaning n).vars) ns ++ gather (lists Binding) (λ n. (meaning n).lexicals) ns
+  locals-whole ns none = ap (λ (m : Meaning). m.locals) (plain-means ns none) ∙ ap₂ (λ (a b : List Binding). a ++ b) (vars-of ns) (lexicals-of ns)
 
   declared-whole : (ns : List Node) → (meaning (whole ns)).declared ≡ gather (lists Id) (λ n. (meaning n).declared) ns ++ gather (lists Id) (λ n. (meaning n).last_declared) ns
   declared-whole ns = ap (λ (m : Meaning). m.declared) (whole-means ns) ∙ ap₂ (λ (a b : List Id). a ++ b) (declared-of ns) (last-declared-of ns)
 
-  exports-whole : (ns : List Node) → (meaning (whole ns)).exports None ≡ gather (lists Exported) (λ n. (meaning n).exports None) ns
-  exports-whole ns = ap (λ (m : Meaning). m.exports None) (whole-means ns) ∙ exports-of ns
+  exports-whole : (ns : List Node) → Partless (map meaning ns) → (meaning (whole ns)).exports None ≡ gather (lists Exported) (λ n. (meaning n).exports None) ns
+  exports-whole ns none = ap (λ (m : Meaning). m.exports None) (plain-means ns none) ∙ exports-of ns
 
   hoisted-whole : (x : ExecutionContext) (ns : List Node) → (meaning (whole ns)).hoisted x ≡ gather steps (λ n. (meaning n).hoisted x) ns
   hoisted-whole x ns = ap (λ (m : Meaning). m.hoisted x) (whole-means ns) ∙ hoisted-of x ns
 
-  completion-whole : (x : ExecutionContext) (ns : List Node)
+  completion-whole : (x : ExecutionContext) (ns : List Node) → Partless (map meaning ns)
       → (meaning (whole ns)).completion x ≡ (gather steps (λ n. (meaning n).completion x) ns >>= λ _. gather steps (λ n. (meaning n).last x) ns)
-  completion-whole x ns = ap (λ (m : Meaning). m.completion x) (whole-means ns) ∙ ap₂ (λ (a b : Step). a >>= λ _. b) (completion-of x ns) (last-of x ns)
+  completion-whole x ns none = ap (λ (m : Meaning). m.completion x) (plain-means ns none) ∙ ap₂ (λ (a b : Step). a >>= λ _. b) (completion-of x ns) (last-of x ns)
 
   -- ---- with its items written, `export =` behind all others
 
@@ -206,6 +246,11 @@ module _ (span : Span) (shebang : Option (List ℕ)) (place : Span) where
     lexicals-same =
         moved-same (lists Binding) to is_export_assignment (λ n. (meaning n).lexicals) (λ n. (meaning n).lexicals) (λ n i. (item-stands x free names frees n i).lexicals)
         (λ n i t. (export-alike x free names frees n i t).lexicals) ns h
+
+    parts-same : gather (lists Id) (λ n. (meaning n).part_names) ms ≡ gather (lists Id) (λ n. (meaning n).part_names) ns
+    parts-same =
+        moved-same (lists Id) to is_export_assignment (λ n. (meaning n).part_names) (λ n. (meaning n).part_names) (λ n i. (item-stands x free names frees n i).part_names)
+        (λ n i t. (export-alike x free names frees n i t).part_names) ns h
 
     exports-same : gather (lists Exported) (λ n. (meaning n).exports None) ms ≡ gather (lists Exported) (λ n. (meaning n).exports None) ns
     exports-same =
@@ -269,17 +314,19 @@ module _ (span : Span) (shebang : Option (List ℕ)) (place : Span) where
     abbrev written : List Node
     written = map (write names seat.Item) (exports_last ns)
 
-    pub whole-runs : Frees here free names → enums_of options (whole written) ≡ enums_of options (whole ns) → RunsAt turns options script (whole ns) (whole written)
-    whole-runs frees known = record {
-      locals =
-          locals-whole written ∙ ap₂ (λ (a b : List Binding). a ++ b) (vars-same here free names frees ns h) (lexicals-same here free names frees ns h)
-          ∙ sym (locals-whole ns);
-      declared = whole-declares here free names frees ns h;
-      enums = known;
-      exports = exports-whole written ∙ exports-same here free names frees ns h ∙ sym (exports-whole ns);
-      hoisted = hoisted-whole here written ∙ hoisted-same here free names frees ns h ∙ sym (hoisted-whole here ns);
-      completion = completion-whole here written ∙ completion-same here free names frees ns h ∙ sym (completion-whole here ns);
-    }
+    pub whole-runs : Frees here free names → Partless (map meaning ns) → enums_of options (whole written) ≡ enums_of options (whole ns) → RunsAt turns options script (whole ns) (whole written)
+    whole-runs frees none known =
+        let none_behind : Partless (map meaning written) = gathered-partless written (parts-same here free names frees ns h ∙ partless-gathered ns none) in
+        record {
+          locals =
+              locals-whole written none_behind ∙ ap₂ (λ (a b : List Binding). a ++ b) (vars-same here free names frees ns h) (lexicals-same here free names frees ns h)
+              ∙ sym (locals-whole ns none);
+          declared = whole-declares here free names frees ns h;
+          enums = known;
+          exports = exports-whole written none_behind ∙ exports-same here free names frees ns h ∙ sym (exports-whole ns none);
+          hoisted = hoisted-whole here written ∙ hoisted-same here free names frees ns h ∙ sym (hoisted-whole here ns);
+          completion = completion-whole here written none_behind ∙ completion-same here free names frees ns h ∙ sym (completion-whole here ns none);
+        }
 
 -- ---- the laws
 
@@ -314,7 +361,8 @@ lowered_trees_run_alike assign free tree sorted taken unrefused none none_before
     bare_lacking_enums options (whole written) (subst (λ z. lacks_enums (bare z) ≡ true) (module-lowered form.0 form.1 form.2 assign free form.3) behind)
     ∙ sym (bare_lacking_enums options (whole form.3) before) in
     ap (λ z. observe turns options z script) (module-lowered form.0 form.1 form.2 assign free form.3)
-    ∙ observed-at turns options script (whole form.3) (whole written) (whole-runs form.0 form.1 form.2 turns options script free names form.3 form.5 frees known))
+    ∙ observed-at turns options script (whole form.3) (whole written) (whole-runs form.0 form.1 form.2 turns options script free names form.3 form.5 frees
+    (module-is-partless form.0 form.1 form.2 form.3 form.5 before) known))
     (names-free (at_run turns options script tree) free (are-free turns options script free tree sorted none (bare_lacking_enums options tree none_before)) options.ts_enum_is_mutable
     (bare_lacking_enums options tree none_before) assign)
     none_before none_behind

@@ -1,15 +1,17 @@
 -- A module runs as before with one item more that does nothing.
-use Rattle.std.proofs.Common.{◌≡◌, ◌∙◌, ℕ, false, refl, sym, ap, ap₂, List, [], ◌∷◌, ◌++◌, map, Option, Some, None}
+use Rattle.std.proofs.Common.{◌≡◌, ◌∙◌, ℕ, false, refl, sym, ap, ap₂, List, [], ◌∷◌, ◌++◌, map, append_assoc, Option, Some, None}
 use Rattle.ecma_config.specs.declared.config.Config.{Config}
 use Rattle.ecma_kind.specs.declared.kind.Kind.TheVariants as kind
+use Rattle.ecma_kind.specs.declared.operators.VarDeclKind.{VarDeclKind}
+use Rattle.ecma_kind.specs.declared.operators.VarDeclKind.TheVariants.{Var}
 use Rattle.ecma_kind.specs.declared.span.Span.{Span}
 use Rattle.ecma_tree.specs.Nodes.{absent, dummy_span, list_node}
 use Rattle.ecma_tree.specs.declared.node.Node.{Node}
 use Rattle.ecma_lower.specs.Marking.{empty_export}
 use Rattle.ecma_runs.specs.declared.script.Script.{Script}
 use Rattle.ecma_runs.specs.Declarations.{all_declared, all_exports, all_last_declared, all_lexicals, all_vars}
-use Rattle.ecma_runs.specs.Evaluation.{meaning, meaning_by}
-use Rattle.ecma_runs.specs.Environment.{filled, new_environment}
+use Rattle.ecma_runs.specs.Evaluation.{list_meaning, meaning, meaning_by, variables_for, with_variables}
+use Rattle.ecma_runs.specs.Environment.{new_environment}
 use Rattle.ecma_runs.specs.Enums.{bare, enums_in}
 use Rattle.ecma_runs.specs.Exports.{Exported, local_ids}
 use Rattle.ecma_runs.specs.Host.{provided_by}
@@ -20,6 +22,7 @@ use Rattle.ecma_runs.specs.State.{Binding, Entered, Id}
 use Rattle.ecma_runs.specs.Statements.{all_completions, all_hoisted, all_last}
 use Rattle.ecma_runs.specs.Values.{Undefined}
 use Rattle.ecma_runs.proofs.Layer.{meaning-roll}
+use Rattle.ecma_runs.proofs.Partless.{variables_alike}
 use Rattle.ecma_marks.specs.Laws.{MarkedTreesRunAlike}
 use Rattle.ecma_marks.proofs.Adding.{where-it-may-come}
 use Rattle.ecma_marks.proofs.Enums.{known-same}
@@ -39,7 +42,7 @@ observed-alike turns options n n' script same stay = λ i.
     let known : Known = record { declared = same.declared i; enums = stay i } in
     let around : Entered → ExecutionContext = λ place. module_context (provided_by script) known place in
     observed
-    ((new_environment (map filled (same.locals i)) (Some module_activation) >>= λ place.
+    ((new_environment (same.locals i) (Some module_activation) >>= λ place.
     shown_to_host (same.hoisted i (around place) >>= λ _. same.completion i (around place) >>= λ _. give Undefined) >>= λ outcome.
     run_actions (around place) (same.exports i) script.actions outcome)
     (start turns script))
@@ -52,45 +55,63 @@ pub record IsIdle (m : Meaning) : Type 0 where
   pub last : m.last ≡ λ x. give tt
   pub vars : m.vars ≡ []
   pub lexicals : m.lexicals ≡ []
+  pub part_names : m.part_names ≡ []
   pub declared : m.declared ≡ []
   pub last_declared : m.last_declared ≡ []
   pub exports : m.exports None ≡ []
+
+module _ (m : Meaning) (idle : IsIdle m) where
+  abbrev with_one : List Meaning → List Meaning
+  with_one ms = ms ++ m ∷ []
+
+  vars_more : (ms : List Meaning) → all_vars (with_one ms) ≡ all_vars ms
+  vars_more [] = ap (λ (z : List Binding). z ++ []) idle.vars
+  vars_more (a ∷ ms) = ap (λ (z : List Binding). a.vars ++ z) (vars_more ms)
+
+  lexicals_more : (ms : List Meaning) → all_lexicals (with_one ms) ≡ all_lexicals ms
+  lexicals_more [] = ap (λ (z : List Binding). z ++ []) idle.lexicals
+  lexicals_more (a ∷ ms) = ap (λ (z : List Binding). a.lexicals ++ z) (lexicals_more ms)
+
+  declared_more : (ms : List Meaning) → all_declared (with_one ms) ≡ all_declared ms
+  declared_more [] = ap (λ (z : List Id). z ++ []) idle.declared
+  declared_more (a ∷ ms) = ap (λ (z : List Id). a.declared ++ z) (declared_more ms)
+
+  last_declared_more : (ms : List Meaning) → all_last_declared (with_one ms) ≡ all_last_declared ms
+  last_declared_more [] = ap (λ (z : List Id). z ++ []) idle.last_declared
+  last_declared_more (a ∷ ms) = ap (λ (z : List Id). a.last_declared ++ z) (last_declared_more ms)
+
+  exports_more : (ms : List Meaning) → all_exports (with_one ms) None ≡ all_exports ms None
+  exports_more [] = ap (λ (z : List Exported). z ++ []) idle.exports
+  exports_more (a ∷ ms) = ap (λ (z : List Exported). a.exports None ++ z) (exports_more ms)
+
+  hoisted_more : (ms : List Meaning) → all_hoisted (with_one ms) ≡ all_hoisted ms
+  hoisted_more [] = λ i x. idle.hoisted i x >>= λ _. give tt
+  hoisted_more (a ∷ ms) = λ i x. a.hoisted x >>= λ _. hoisted_more ms i x
+
+  completions_more : (ms : List Meaning) → all_completions (with_one ms) ≡ all_completions ms
+  completions_more [] = λ i x. idle.completion i x >>= λ _. give tt
+  completions_more (a ∷ ms) = λ i x. a.completion x >>= λ _. completions_more ms i x
+
+  last_more : (ms : List Meaning) → all_last (with_one ms) ≡ all_last ms
+  last_more [] = λ i x. idle.last i x >>= λ _. give tt
+  last_more (a ∷ ms) = λ i x. a.last x >>= λ _. last_more ms i x
+
+  -- the variables of enums, whatever node the list is
+
+  module _ (n n' : Node) (word : VarDeclKind) where
+    variables_more : (there : List Id) (ms : List Meaning) → with_variables n' word there (with_one ms) ≡ with_one (with_variables n word there ms)
+    variables_more there [] = ap (λ names. variables_for n' word m.is_export there names ++ (m ∷ [])) idle.part_names
+    variables_more there (a ∷ ms) =
+        ap₂ (λ vars rest. vars ++ (a ∷ rest)) (variables_alike n n' word a.is_export there a.part_names) (variables_more (there ++ a.merged_names) ms)
+        ∙ sym (append_assoc (variables_for n word a.is_export there a.part_names) (a ∷ with_variables n word (there ++ a.merged_names) ms) (m ∷ []))
 
 module _ (e : Node) (idle : IsIdle (meaning e)) where
   abbrev more : List Node → List Node
   more ns = ns ++ e ∷ []
 
-  vars_more : (ns : List Node) → all_vars (map meaning (more ns)) ≡ all_vars (map meaning ns)
-  vars_more [] = ap (λ (z : List Binding). z ++ []) idle.vars
-  vars_more (n ∷ ns) = ap (λ (z : List Binding). (meaning n).vars ++ z) (vars_more ns)
-
-  lexicals_more : (ns : List Node) → all_lexicals (map meaning (more ns)) ≡ all_lexicals (map meaning ns)
-  lexicals_more [] = ap (λ (z : List Binding). z ++ []) idle.lexicals
-  lexicals_more (n ∷ ns) = ap (λ (z : List Binding). (meaning n).lexicals ++ z) (lexicals_more ns)
-
-  declared_more : (ns : List Node) → all_declared (map meaning (more ns)) ≡ all_declared (map meaning ns)
-  declared_more [] = ap (λ (z : List Id). z ++ []) idle.declared
-  declared_more (n ∷ ns) = ap (λ (z : List Id). (meaning n).declared ++ z) (declared_more ns)
-
-  last_declared_more : (ns : List Node) → all_last_declared (map meaning (more ns)) ≡ all_last_declared (map meaning ns)
-  last_declared_more [] = ap (λ (z : List Id). z ++ []) idle.last_declared
-  last_declared_more (n ∷ ns) = ap (λ (z : List Id). (meaning n).last_declared ++ z) (last_declared_more ns)
-
-  exports_more : (ns : List Node) → all_exports (map meaning (more ns)) None ≡ all_exports (map meaning ns) None
-  exports_more [] = ap (λ (z : List Exported). z ++ []) idle.exports
-  exports_more (n ∷ ns) = ap (λ (z : List Exported). (meaning n).exports None ++ z) (exports_more ns)
-
-  hoisted_more : (ns : List Node) → all_hoisted (map meaning (more ns)) ≡ all_hoisted (map meaning ns)
-  hoisted_more [] = λ i x. idle.hoisted i x >>= λ _. give tt
-  hoisted_more (n ∷ ns) = λ i x. (meaning n).hoisted x >>= λ _. hoisted_more ns i x
-
-  completions_more : (ns : List Node) → all_completions (map meaning (more ns)) ≡ all_completions (map meaning ns)
-  completions_more [] = λ i x. idle.completion i x >>= λ _. give tt
-  completions_more (n ∷ ns) = λ i x. (meaning n).completion x >>= λ _. completions_more ns i x
-
-  last_more : (ns : List Node) → all_last (map meaning (more ns)) ≡ all_last (map meaning ns)
-  last_more [] = λ i x. idle.last i x >>= λ _. give tt
-  last_more (n ∷ ns) = λ i x. (meaning n).last x >>= λ _. last_more ns i x
+  means_more : (ns : List Node) → map meaning (more ns) ≡ map meaning ns ++ meaning e ∷ []
+  means_more [] = refl
+  means_more (n ∷ ns) = ap (λ ms. meaning n ∷ ms) (means_more ns)
 
   -- ---- the module
 
@@ -101,31 +122,52 @@ module _ (e : Node) (idle : IsIdle (meaning e)) where
     whole_means : (ns : List Node) → meaning (whole ns) ≡ meaning_by (whole ns) (kind.Module shebang) (meaning (list_at place ns) ∷ [])
     whole_means ns = meaning-roll (record { span = span; kind = kind.Module shebang; children = list_at place ns ∷ [] })
 
-    list_means : (ns : List Node) → meaning (list_at place ns) ≡ meaning_by (list_at place ns) kind.List (map meaning ns)
+    list_means : (ns : List Node) → meaning (list_at place ns) ≡ list_meaning (list_at place ns) (map meaning ns)
     list_means ns = meaning-roll (record { span = place; kind = kind.List; children = ns })
 
-    locals_of_whole : (ns : List Node) → (meaning (whole ns)).locals ≡ all_vars (map meaning ns) ++ all_lexicals (map meaning ns)
-    locals_of_whole ns = ap (λ (m : Meaning). m.locals) (whole_means ns) ∙ ap (λ (m : Meaning). m.vars ++ m.lexicals) (list_means ns)
+    -- the items, with the variables of enums
+    abbrev items : List Node → List Meaning
+    items ns = with_variables (list_at place ns) Var [] (map meaning ns)
+
+    items_more : (ns : List Node) → items (more ns) ≡ items ns ++ meaning e ∷ []
+    items_more ns =
+        ap (with_variables (list_at place (more ns)) Var []) (means_more ns)
+        ∙ variables_more (meaning e) idle (list_at place ns) (list_at place (more ns)) Var [] (map meaning ns)
+
+    locals_of_whole : (ns : List Node) → (meaning (whole ns)).locals ≡ all_vars (items ns) ++ all_lexicals (items ns)
+    locals_of_whole ns = ap (λ (m : Meaning). m.locals) (whole_means ns) ∙ ap (λ (m : Meaning). m.locals) (list_means ns)
 
     hoisted_of_whole : (ns : List Node) → (meaning (whole ns)).hoisted ≡ all_hoisted (map meaning ns)
     hoisted_of_whole ns = ap (λ (m : Meaning). m.hoisted) (whole_means ns) ∙ ap (λ (m : Meaning). m.hoisted) (list_means ns)
 
-    completion_of_whole : (ns : List Node) → (meaning (whole ns)).completion ≡ λ x. all_completions (map meaning ns) x >>= λ _. all_last (map meaning ns) x
-    completion_of_whole ns = ap (λ (m : Meaning). m.completion) (whole_means ns) ∙ ap (λ (m : Meaning). λ x. m.completion x >>= λ _. m.last x) (list_means ns)
+    completion_of_whole : (ns : List Node) → (meaning (whole ns)).completion ≡ λ x. all_completions (items ns) x >>= λ _. all_last (map meaning ns) x
+    completion_of_whole ns = ap (λ (m : Meaning). m.completion) (whole_means ns) ∙ ap (λ (m : Meaning). λ x. m.module_body x >>= λ _. m.last x) (list_means ns)
 
     declared_of_whole : (ns : List Node) → (meaning (whole ns)).declared ≡ all_declared (map meaning ns) ++ all_last_declared (map meaning ns)
     declared_of_whole ns = ap (λ (m : Meaning). m.declared) (whole_means ns) ∙ ap (λ (m : Meaning). m.declared ++ m.last_declared) (list_means ns)
 
-    exports_of_whole : (ns : List Node) → (meaning (whole ns)).exports None ≡ all_exports (map meaning ns) None
+    exports_of_whole : (ns : List Node) → (meaning (whole ns)).exports None ≡ all_exports (items ns) None
     exports_of_whole ns = ap (λ (m : Meaning). m.exports None) (whole_means ns) ∙ ap (λ (m : Meaning). m.exports None) (list_means ns)
+
+    locals_more : (ns : List Node) → all_vars (items (more ns)) ++ all_lexicals (items (more ns)) ≡ all_vars (items ns) ++ all_lexicals (items ns)
+    locals_more ns =
+        ap (λ ms. all_vars ms ++ all_lexicals ms) (items_more ns)
+        ∙ ap₂ (λ (a b : List Binding). a ++ b) (vars_more (meaning e) idle (items ns)) (lexicals_more (meaning e) idle (items ns))
+
+    declares_more : (ns : List Node) → all_declared (map meaning (more ns)) ++ all_last_declared (map meaning (more ns)) ≡ all_declared (map meaning ns) ++ all_last_declared (map meaning ns)
+    declares_more ns =
+        ap (λ ms. all_declared ms ++ all_last_declared ms) (means_more ns)
+        ∙ ap₂ (λ (a b : List Id). a ++ b) (declared_more (meaning e) idle (map meaning ns)) (last_declared_more (meaning e) idle (map meaning ns))
 
     pub whole-runs : (ns : List Node) → RunsAlike (meaning (whole ns)) (meaning (whole (more ns)))
     whole-runs ns = record {
-      locals = locals_of_whole (more ns) ∙ ap₂ (λ (a b : List Binding). a ++ b) (vars_more ns) (lexicals_more ns) ∙ sym (locals_of_whole ns);
-      hoisted = hoisted_of_whole (more ns) ∙ hoisted_more ns ∙ sym (hoisted_of_whole ns);
-      completion = completion_of_whole (more ns) ∙ (λ i x. completions_more ns i x >>= λ _. last_more ns i x) ∙ sym (completion_of_whole ns);
-      declared = declared_of_whole (more ns) ∙ ap₂ (λ (a b : List Id). a ++ b) (declared_more ns) (last_declared_more ns) ∙ sym (declared_of_whole ns);
-      exports = exports_of_whole (more ns) ∙ exports_more ns ∙ sym (exports_of_whole ns);
+      locals = locals_of_whole (more ns) ∙ locals_more ns ∙ sym (locals_of_whole ns);
+      hoisted = hoisted_of_whole (more ns) ∙ ap all_hoisted (means_more ns) ∙ hoisted_more (meaning e) idle (map meaning ns) ∙ sym (hoisted_of_whole ns);
+      completion =
+          completion_of_whole (more ns) ∙ ap₂ (λ ms ns'. λ x. all_completions ms x >>= λ _. all_last ns' x) (items_more ns) (means_more ns)
+          ∙ (λ i x. completions_more (meaning e) idle (items ns) i x >>= λ _. last_more (meaning e) idle (map meaning ns) i x) ∙ sym (completion_of_whole ns);
+      declared = declared_of_whole (more ns) ∙ declares_more ns ∙ sym (declared_of_whole ns);
+      exports = exports_of_whole (more ns) ∙ ap (λ ms. all_exports ms None) (items_more ns) ∙ exports_more (meaning e) idle (items ns) ∙ sym (exports_of_whole ns);
     }
 
 -- ---- `export {}` is such an item
@@ -146,6 +188,7 @@ export-idle = record {
   last = ap (λ (m : Meaning). m.last) export_means;
   vars = ap (λ (m : Meaning). m.vars) export_means;
   lexicals = ap (λ (m : Meaning). m.lexicals) export_means;
+  part_names = ap (λ (m : Meaning). m.part_names) export_means;
   declared = ap (λ (m : Meaning). m.declared) export_means ∙ ap₂ (λ (a b : Meaning). a.declared ++ (b.declared ++ (b.declared ++ []))) none_means absent_means;
   last_declared = ap (λ (m : Meaning). m.last_declared) export_means;
   exports = ap (λ (m : Meaning). m.exports None) export_means ∙ ap (λ (m : Meaning). m.exports (meaning absent).text) none_means;

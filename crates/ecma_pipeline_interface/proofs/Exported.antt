@@ -1,5 +1,5 @@
 -- What a declaration behind `export` binds is among the names that a module exports under their own ones where it runs.
-use Rattle.std.proofs.Common.{◌≡◌, ◌∙◌, ◌||◌, not, ℕ, zero, suc, Bool, true, false, cond, List, [], ◌∷◌, ◌++◌, map, Some, None, refl, sym, ap, ap₂, subst, slice_get}
+use Rattle.std.proofs.Common.{◌≡◌, ◌∙◌, ◌||◌, not, ℕ, zero, suc, Bool, true, false, cond, List, [], ◌∷◌, ◌++◌, map, append_assoc, Some, None, refl, sym, ap, ap₂, subst, slice_get}
 use Rattle.std.specs.List.{All}
 use Rattle.std.proofs.lemmas.Bool.{and_parts}
 use Rattle.std.proofs.lemmas.List.{map-append}
@@ -39,7 +39,7 @@ use Rattle.ecma_runs.specs.State.{Id}
 use Rattle.ecma_runs.specs.Environment.{empty, ids_of, undefined}
 use Rattle.ecma_runs.specs.Exports.{Exported, Local, Indirect, Star, export_names}
 use Rattle.ecma_runs.specs.Declarations.{all_exports, all_names}
-use Rattle.ecma_runs.specs.Evaluation.{meaning, meaning_by, no_effect, role_by}
+use Rattle.ecma_runs.specs.Evaluation.{meaning, meaning_by, no_effect, role_by, variables_for, with_variables}
 use Rattle.ecma_runs.specs.Meaning.{Meaning}
 use Rattle.ecma_runs.specs.Observation.{exports_in}
 use Rattle.ecma_runs.proofs.Layer.{meaning_out}
@@ -258,17 +258,42 @@ module _ (texts : Texts) where
   all_own [] h = tt
   all_own (id ∷ ids) h = (All-head Own id ids h, all_own ids (All-tail Own id ids h))
 
+  in_two : (xs ys : List Exported) → KeepTexts texts (as_names (export_names (xs ++ ys))) → KeepTexts texts (as_names (export_names xs)) × KeepTexts texts (as_names (export_names ys))
+  in_two xs ys k =
+      split_kept texts (as_names (export_names xs)) (as_names (export_names ys)) (subst (KeepTexts texts) (ap as_names (export_append xs ys) ∙ map-append as_name (export_names xs) (export_names ys)) k)
+
   parted : (n : Node) (ns : List Node) → KeepTexts texts (as_names (export_names (all_exports (map meaning (n ∷ ns)) None)))
       → KeepTexts texts (as_names (export_names ((meaning n).exports None))) × KeepTexts texts (as_names (export_names (all_exports (map meaning ns) None)))
-  parted n ns k =
-      let first = (meaning n).exports None in
-      let others = all_exports (map meaning ns) None in
-      split_kept texts (as_names (export_names first)) (as_names (export_names others)) (subst (KeepTexts texts) (ap as_names (export_append first others) ∙ map-append as_name (export_names first) (export_names others)) k)
+  parted n ns k = in_two ((meaning n).exports None) (all_exports (map meaning ns) None) k
 
   among : (ns : List Node) → KeepTexts texts (as_names (export_names (all_exports (map meaning ns) None))) → (i : ℕ) (y : Node) → slice_get ns i ≡ Some y → KeepTexts texts (as_names (export_names ((meaning y).exports None)))
   among [] k i y at = cc
   among (n ∷ ns) k zero y at = let same_node : n ≡ y = cc in subst (λ z. KeepTexts texts (as_names (export_names ((meaning z).exports None)))) same_node (parted n ns k).0
   among (n ∷ ns) k (suc i) y at = among ns (parted n ns k).1 i y at
+
+  -- of items with the variables of enums, the items alone
+
+  all_append : (ms ms' : List Meaning) → all_exports (ms ++ ms') None ≡ all_exports ms None ++ all_exports ms' None
+  all_append [] ms' = refl
+  all_append (m ∷ ms) ms' = ap (λ (z : List Exported). m.exports None ++ z) (all_append ms ms') ∙ sym (append_assoc (m.exports None) (all_exports ms None) (all_exports ms' None))
+
+  in_one : (xs ys : List Exported) → KeepTexts texts (as_names (export_names xs)) → KeepTexts texts (as_names (export_names ys)) → KeepTexts texts (as_names (export_names (xs ++ ys)))
+  in_one [] ys k l = l
+  in_one (Local None id ∷ xs) ys k l = (k.0, in_one xs ys k.1 l)
+  in_one (Local (Some exported) id ∷ xs) ys k l = in_one xs ys k l
+  in_one (Indirect exported source imported ∷ xs) ys k l = in_one xs ys k l
+  in_one (Star ∷ xs) ys k l = in_one xs ys k l
+
+  items_kept : (n : Node) (there : List Id) (ns : List Node) → KeepTexts texts (as_names (export_names (all_exports (with_variables n Var there (map meaning ns)) None)))
+      → KeepTexts texts (as_names (export_names (all_exports (map meaning ns) None)))
+  items_kept n there [] k = k
+  items_kept n there (c ∷ ns) k =
+      let m = meaning c in
+      let variables = variables_for n Var m.is_export there m.part_names in
+      let rest = with_variables n Var (there ++ m.merged_names) (map meaning ns) in
+      let own = in_two (all_exports variables None) (m.exports None ++ all_exports rest None) (subst (λ (z : List Exported). KeepTexts texts (as_names (export_names z))) (all_append variables (m ∷ rest)) k) in
+      let both = in_two (m.exports None) (all_exports rest None) own.1 in
+      in_one (m.exports None) (all_exports (map meaning ns) None) both.0 (items_kept n (there ++ m.merged_names) ns both.1)
 
   module _ (left : Node) (fits : Fits left) (kept : All Own (export_names (exports_in left))) where
     module_of : (k : Kind) → kind_of left ≡ k → belongs sort.Module k ≡ true → (l : Node) × (children_of left ≡ l ∷ []) × HasShape (many sort.ModuleItem) l × (exports_in left ≡ (meaning l).exports None)
@@ -294,8 +319,9 @@ module _ (texts : Texts) where
         let value : is_value u.0 ≡ true = sym (value_as true y kind.ExportDecl (u.0 ∷ []) e u.1 ∙ value_first u.0) ∙ both.0 in
         let declared : is_declared (kind_of u.0) ≡ false = sym (ambient_as y u.0 e u.1) ∙ not-true (is_ambient y) both.1 in
         let names = export_names_of y u.0 e u.1 (declares u.0 (where_in place y 0) u.2 (stands_below y place stands 0 u.0 first) value declared (native u.0 first)) in
-        let whole : exports_in left ≡ all_exports (map meaning (children_of l)) None = t.3 ∙ ap (λ m. m.exports None) (meaning_as l kind.List (children_of l) is_l refl) in
-        let own = among (children_of l) (all_own (export_names (all_exports (map meaning (children_of l)) None)) (subst (λ xs. All Own (export_names xs)) whole kept)) i y of_list in
+        let varied = with_variables l Var [] (map meaning (children_of l)) in
+        let whole : exports_in left ≡ all_exports varied None = t.3 ∙ ap (λ m. m.exports None) (meaning_as l kind.List (children_of l) is_l refl) in
+        let own = among (children_of l) (items_kept l [] (children_of l) (all_own (export_names (all_exports varied None)) (subst (λ xs. All Own (export_names xs)) whole kept))) i y of_list in
         subst (KeepTexts texts) (names ∙ ap bound_of (sym first)) own
 
 pub exports_kept : (texts : Texts) (tree : Node) → Fits tree → adds_types_alone tree ≡ true → Fits (stripped tree) → KeepsExportedTexts (text_of texts) (stripped tree) → KeepsExported texts (stripped tree)

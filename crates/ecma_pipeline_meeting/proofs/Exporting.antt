@@ -24,6 +24,7 @@ use Rattle.ecma_runs.proofs.Seeking.{sought-roll}
 use Rattle.ecma_hygiene_meeting.proofs.Among.{among-cases, among-left, among-right, either-of}
 use Rattle.ecma_hygiene_meeting.proofs.Naming.{named}
 use Rattle.ecma_pipeline_meeting.proofs.Parts.{AllPlain, ids-append, ids-made, plain-head, plain-kind, plain-out, plain-tail}
+use Rattle.ecma_pipeline_meeting.proofs.PlainLists.{plain-list, plain-locals, specifier-list}
 use Rattle.ecma_pipeline_meeting.proofs.Patterns.{shape_out}
 
 -- ---- entries
@@ -119,7 +120,7 @@ module _ (id : Id) where
 
   specifiers-by : (n : Node) (k : Kind) (cs : List Node) (source : Option (List ℕ)) → is_list k ≡ true → HaveShapes (child_shapes k (shape_of count.Many sort.ExportSpecifier) (length cs)) cs
       → Exports ((meaning_by n k (map meaning cs)).exports source) → Looked (sought_by k (map seeker cs)).sought
-  specifiers-by n kind.List cs source b h a = each-specifier cs source h a
+  specifiers-by n kind.List cs source b h a = each-specifier cs source h (ap (λ m. is_among id (local_ids (m.exports source))) (sym (specifier-list n cs h)) ∙ a)
   specifiers-by n _ cs source b h a = absurd (true-false b refl)
 
   specifiers-looked : (n : Node) (source : Option (List ℕ)) → HasShape (shape_of count.Many sort.ExportSpecifier) n → Exports ((meaning n).exports source) → Looked (sought_in n).sought
@@ -218,7 +219,8 @@ module _ (id : Id) where
 
   items-by : (n : Node) (k : Kind) (cs : List Node) → is_list k ≡ true → HaveShapes (child_shapes k (shape_of count.Many sort.ModuleItem) (length cs)) cs → AllPlain cs
       → Exports ((meaning_by n k (map meaning cs)).exports None) → FoundIn (meaning_by n k (map meaning cs)) (sought_by k (map seeker cs))
-  items-by n kind.List cs b h plain a = each-item cs h plain a
+  items-by n kind.List cs b h plain a =
+      subst (λ m. Exports (m.exports None) → FoundIn m (sought_by kind.List (map seeker cs))) (sym (plain-list n cs plain)) (each-item cs h plain) a
   items-by n _ cs b h plain a = absurd (true-false b refl)
 
   items-found : (n : Node) → HasShape (shape_of count.Many sort.ModuleItem) n → is_plain n ≡ true → Exports ((meaning n).exports None) → FoundIn (meaning n) (sought_in n)
@@ -239,7 +241,9 @@ module _ (id : Id) where
 
   module-by : (n : Node) (k : Kind) (cs : List Node) → belongs sort.Module k ≡ true → HaveShapes (child_shapes k (one sort.Module) (length cs)) cs → AllPlain cs
       → Exports ((meaning_by n k (map meaning cs)).exports None) → OwnOrLooked (meaning_by n k (map meaning cs)) (sought_by k (map seeker cs))
-  module-by n (kind.Module s) (body ∷ []) b h plain a = of-body (meaning body).vars (meaning body).lexicals (sought_in body).sought (items-found body h.0 (plain-head body [] plain) a)
+  module-by n (kind.Module s) (body ∷ []) b h plain a =
+      subst (λ bs. Among bs ⊎ Looked ((sought_in body).sought ++ [])) (sym (plain-locals sort.ModuleItem body h.0 (plain-head body [] plain)))
+      (of-body (meaning body).vars (meaning body).lexicals (sought_in body).sought (items-found body h.0 (plain-head body [] plain) a))
   module-by n (kind.Module s) [] b h plain a = absurd h
   module-by n (kind.Module s) (c ∷ d ∷ cs) b h plain a = absurd h.1
   module-by n _ cs b h plain a = absurd (true-false b refl)

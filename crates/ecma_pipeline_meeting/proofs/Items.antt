@@ -30,6 +30,7 @@ use Rattle.ecma_runs.specs.Evaluation.{meaning, meaning_by, no_effect, role_by}
 use Rattle.ecma_runs.proofs.Layer.{meaning_out}
 use Rattle.ecma_pipeline_meeting.proofs.Parts.{AllPlain, Sound, among-append, ids-append, ids-made, kept, kept-append, kept-nil, kept-out, not-false, plain-effect, plain-head, plain-kind, plain-out, plain-tail, sound-out}
 use Rattle.ecma_pipeline_meeting.proofs.Patterns.{declarators, ident-named, name_sought, shape_out}
+use Rattle.ecma_pipeline_meeting.proofs.PlainLists.{plain-list}
 use Rattle.ecma_pipeline_meeting.proofs.Quiet.{quiet}
 use Rattle.ecma_pipeline_meeting.proofs.Variables.{item_sought}
 use Rattle.ecma_pipeline_meeting.proofs.Walks.{Each}
@@ -261,7 +262,8 @@ module _ (id : Id) where
   statements-by : (value : Bool) (n : Node) (k : Kind) (cs : List Node) (around : ℕ → Where) → is_list k ≡ true → Each (λ i c. Placed (around i) c) 0 cs
       → HaveShapes (child_shapes k (shape_of count.Many sort.Stmt) (length cs)) cs → AllPlain cs → ItemsOf value n k cs
   unfolding in_item
-  statements-by value n kind.List cs around b p h plain = each-item 0 cs (all-items around 0 cs p h plain)
+  statements-by value n kind.List cs around b p h plain =
+      each-item 0 cs (all-items around 0 cs p h plain) ∙ ap (λ m. is_among id (ids_of m.lexicals)) (sym (plain-list n cs plain))
   statements-by value n _ cs around b p h plain = absurd (true-false b refl)
 
   pub statements-are : (w : Where) (n : Node) → Placed w n → HasShape (shape_of count.Many sort.Stmt) n → is_plain n ≡ true → ItemsAre n
@@ -293,7 +295,8 @@ module _ (id : Id) where
   cases-by : (value : Bool) (n : Node) (k : Kind) (cs : List Node) (around : ℕ → Where) → is_list k ≡ true → Each (λ i c. Placed (around i) c) 0 cs
       → HaveShapes (child_shapes k (shape_of count.Many sort.SwitchCase) (length cs)) cs → AllPlain cs → ItemsOf value n k cs
   unfolding in_item
-  cases-by value n kind.List cs around b p h plain = each-item 0 cs (all-cases around 0 cs p h plain)
+  cases-by value n kind.List cs around b p h plain =
+      each-item 0 cs (all-cases around 0 cs p h plain) ∙ ap (λ m. is_among id (ids_of m.lexicals)) (sym (plain-list n cs plain))
   cases-by value n _ cs around b p h plain = absurd (true-false b refl)
 
   pub cases-are : (w : Where) (n : Node) → Placed w n → HasShape (shape_of count.Many sort.SwitchCase) n → is_plain n ≡ true → ItemsAre n

@@ -2,6 +2,7 @@ pub mod Walks
 pub mod Parts
 mod Apart
 pub mod Patterns
+pub mod PlainLists
 pub mod Quiet
 pub mod Variables
 pub mod Items

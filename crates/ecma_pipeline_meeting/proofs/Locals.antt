@@ -34,6 +34,7 @@ use Rattle.ecma_runs.proofs.Names.{same_id-equal}
 use Rattle.ecma_hygiene_meeting.specs.Records.{declares_id}
 use Rattle.ecma_pipeline_meeting.proofs.Items.{function-value, is_item, item-are}
 use Rattle.ecma_pipeline_meeting.proofs.Parts.{AllPlain, among-append, ids-append, ids-made, kept, kept-append, kept-nil, kept-out, not-false, plain-effect, plain-head, plain-kind, plain-out, plain-tail, sound-out}
+use Rattle.ecma_pipeline_meeting.proofs.PlainLists.{plain-list, plain-locals}
 use Rattle.ecma_pipeline_meeting.proofs.Patterns.{ident-named, name_sought, own-named, shape_out}
 use Rattle.ecma_pipeline_meeting.proofs.Scopes.{Placed, own-found, scope-kept}
 use Rattle.ecma_pipeline_meeting.proofs.Variables.{has-vars, inner-kind, is_inner, item_sought, var_sought}
@@ -322,7 +323,7 @@ module _ (id : Id) (other : id ≢ default_name) where
       → HaveShapes (child_shapes k (shape_of count.Many sort.ModuleItem) (length cs)) cs → AllPlain cs → Among (meaning_by n k (map meaning cs)).lexicals
       → Kept (id_here item_sought k ++ ids_in (λ i. in_item true value k i) 0 (map ids_declared cs))
   unfolding in_item
-  lexicals-by value n kind.List cs around b p h plain a = each-lexical around 0 cs p h plain a
+  lexicals-by value n kind.List cs around b p h plain a = each-lexical around 0 cs p h plain (ap (λ m. is_among id (ids_of m.lexicals)) (sym (plain-list n cs plain)) ∙ a)
   lexicals-by value n _ cs around b p h plain a = absurd (true-false b refl)
 
   body-lexicals : (w : Where) (body : Node) → Placed w body → HasShape (shape_of count.Many sort.ModuleItem) body → is_plain body ≡ true
@@ -343,7 +344,8 @@ module _ (id : Id) (other : id ≢ default_name) where
   unfolding in_scope in_var holds_vars
   module-by value n (kind.Module s) (body ∷ []) around found b p h plain f a =
       let items = kept id (ids_declared body item_sought ++ []) in
-      either-of (meaning body).vars (meaning body).lexicals ((items || kept id found) ≡ true) a
+      either-of (meaning body).vars (meaning body).lexicals ((items || kept id found) ≡ true)
+      (ap (λ bs. is_among id (ids_of bs)) (sym (plain-locals sort.ModuleItem body h.0 (plain-head body [] plain))) ∙ a)
       (λ e. or-second items (kept id found) (f ∙ kept-nil id (ids_declared body var_sought) ∙ body-vars (around 0) body p.0 h.0 (plain-head body [] plain) e))
       (λ e. or-first items (kept id found) (kept-nil id (ids_declared body item_sought) ∙ body-lexicals (around 0) body p.0 h.0 (plain-head body [] plain) e))
   module-by value n (kind.Module s) [] around found b p h plain f a = absurd h

@@ -167,8 +167,8 @@ handed_on n n' kind.TsSatisfiesExpr shape _ p h = absurd h
 handed_on n n' _ shape ms p h = absurd (cc)
 
 module _ (known : Known) (may_change : Bool) (none : known.enums ≡ no_enums may_change) where
-  abbrev known_enums : EnumsStand known.enums same_names true None ended Fine
-  known_enums = without_enums Fine ended same_names true None known.enums may_change none
+  abbrev known_enums : EnumsStand known.enums known.enums same_names true ended Fine
+  known_enums = without_enums Fine ended same_names true known.enums may_change none
 
   abbrev c : Change
   c = images_where Fine ended known the_same known_enums
@@ -194,6 +194,7 @@ module _ (known : Known) (may_change : Bool) (none : known.enums ≡ no_enums ma
     member = same.member;
     varied = same.varied;
     hoisted = same.hoisted;
+    module_body = same.module_body;
     last = same.last;
     effect = same.effect;
     test = same.test;
@@ -219,6 +220,10 @@ module _ (known : Known) (may_change : Bool) (none : known.enums ≡ no_enums ma
     imported = same.imported;
     text = same.text;
     member_texts = same.member_texts;
+    part_names = same.part_names;
+    merged_names = same.merged_names;
+    no_part = same.no_part;
+    is_export = same.is_export;
     exports = same.exports;
     cooked = same.cooked;
     is_plain = same.is_plain;
@@ -261,6 +266,7 @@ module _ (known : Known) (may_change : Bool) (none : known.enums ≡ no_enums ma
       member = same.member;
       varied = same.varied;
       hoisted = same.hoisted;
+      module_body = same.module_body;
       last = same.last;
       effect = λ w s. as_read (λ z. valued a d (first (at c _) w) z >>= λ _. give tt) (λ z. valued a' d' (second (at c _) w) z >>= λ _. give tt) (same.effect w s);
       test = λ w s. as_read (valued a d (first (at c _) w)) (valued a' d' (second (at c _) w)) (same.test w s);
@@ -286,6 +292,10 @@ module _ (known : Known) (may_change : Bool) (none : known.enums ≡ no_enums ma
       imported = same.imported;
       text = same.text;
       member_texts = same.member_texts;
+      part_names = same.part_names;
+      merged_names = same.merged_names;
+      no_part = same.no_part;
+      is_export = same.is_export;
       exports = same.exports;
       cooked = same.cooked;
       is_plain = same.is_plain;
@@ -509,7 +519,7 @@ ended_runs turns options m script h lacks =
     let x = out-Node m in
     let of_module : belongs sort.Module x.kind ≡ true = ((node_has_shape x.span x.kind x.children (one sort.Module)).0 (subst (HasShape (one sort.Module)) (sym (roll-out-Node m)) h)).0 in
     ap (λ n. observe n options (ended m) script) (sym (add-zero turns))
-    ∙ observe_unless (c known options.ts_enum_is_mutable none) refl (steps known options.ts_enum_is_mutable none) refl refl turns options m script (((one sort.Module, h), lacks), module_gives_none x.kind of_module) refl
+    ∙ observe_unless (c known options.ts_enum_is_mutable none) refl (steps known options.ts_enum_is_mutable none) refl refl refl turns options m script (((one sort.Module, h), lacks), module_gives_none x.kind of_module) refl
     (lacking_enums options (ended m) (ended_lacks m (one sort.Module) h lacks) ∙ sym none) plain_starts tt tt (none_excused _)
 
 pub runs_alike : ParenthesesDoNotMatter → RunsAlike

@@ -1,5 +1,5 @@
 -- A layer does not ask of its children what they are as links of a chain, unless it is a chain.
-use Rattle.std.proofs.Common.{◌≡◌, ℕ, zero, suc, refl, cond, not, Option, List, [], ◌∷◌, ◌++◌, map, length, Bool, true, false, ◌&&◌, ◌||◌, Some, None}
+use Rattle.std.proofs.Common.{◌≡◌, ◌∙◌, ℕ, zero, suc, refl, sym, ap, ap₂, cond, not, Option, List, [], ◌∷◌, ◌++◌, map, length, Bool, true, false, ◌&&◌, ◌||◌, Some, None}
 use Rattle.ecma_kind.specs.declared.kind.Kind.{Kind}
 use Rattle.ecma_kind.specs.declared.kind.Kind.TheVariants as kind
 use Rattle.ecma_kind.specs.declared.shapes.Shape.{Shape}
@@ -8,16 +8,17 @@ use Rattle.ecma_kind.specs.declared.operators.UnaryOp.TheVariants as operator
 use Rattle.ecma_kind.specs.declared.operators.BinaryOp.{BinaryOp}
 use Rattle.ecma_kind.specs.declared.operators.AssignOp.{AssignOp}
 use Rattle.ecma_kind.specs.declared.operators.AssignOp.TheVariants as assignment
+use Rattle.ecma_kind.specs.declared.operators.VarDeclKind.{VarDeclKind}
 use Rattle.ecma_kind.specs.declared.operators.VarDeclKind.TheVariants.{Var, Let, Const}
 use Rattle.ecma_tree.specs.declared.node.Node.{Node}
 use Rattle.ecma_tree.specs.Sorted.{child_shapes}
 use Rattle.ecma_runs.specs.State.{Entered, Id}
 use Rattle.ecma_runs.specs.Run.{◌>>=◌, give, given, loop, outside, return, round, spend, when}
-use Rattle.ecma_runs.specs.Environment.{Reference, ToValue, copy_environment, new_environment}
+use Rattle.ecma_runs.specs.Environment.{Reference, ToValue, copy_environment, is_among, new_environment}
 use Rattle.ecma_runs.specs.Functions.{read, write}
 use Rattle.ecma_runs.specs.Operators.{logical_operator_of, operator_of, short_circuit, text_from}
 use Rattle.ecma_runs.specs.Meaning.{Evaluation, Meaning, inside}
-use Rattle.ecma_runs.specs.Evaluation.{meaning_by, no_effect, role_by}
+use Rattle.ecma_runs.specs.Evaluation.{exported_if, meaning_by, no_effect, role_by, variable_declared, variables_for, with_variables}
 use Rattle.ecma_runs.specs.Values.{Value, truth_of}
 use Rattle.ecma_runs.specs.Classes.{all_code, all_defined, all_fields, all_statics, field_with}
 use Rattle.ecma_runs.specs.Declarations.{all_names, all_imported, all_lexicals, all_vars, all_parameter_names, all_declared, all_last_declared, all_shorthands, all_cooked, all_plain, all_types, any_constructor, joined_parts, imported_from, all_exports, exported_from, all_member_texts}
@@ -160,6 +161,38 @@ sequence_unlinked [] = refl
 sequence_unlinked (e ∷ []) = refl
 sequence_unlinked (e ∷ f ∷ es) = λ i x. e.value x >>= λ _. sequence_unlinked (f ∷ es) i x
 
+-- with the variables of enums, which are no links
+
+variable_unlinked : (n : Node) (word : VarDeclKind) (e : Bool) (id : Id) → exported_if n e (variable_declared n word id) ≡ unlinked (exported_if n e (variable_declared n word id))
+variable_unlinked n word true id = refl
+variable_unlinked n word false id = refl
+
+variables_unlinked : (n : Node) (word : VarDeclKind) (e : Bool) (there ids : List Id) → variables_for n word e there ids ≡ all_unlinked (variables_for n word e there ids)
+variables_unlinked n word e there [] = refl
+variables_unlinked n word e there (id ∷ ids) = chosen (is_among id there)
+  where
+    chosen : (b : Bool) → cond b (variables_for n word e there ids) (exported_if n e (variable_declared n word id) ∷ variables_for n word e there ids)
+        ≡ all_unlinked (cond b (variables_for n word e there ids) (exported_if n e (variable_declared n word id) ∷ variables_for n word e there ids))
+    chosen true = variables_unlinked n word e there ids
+    chosen false = ap₂ (λ m ms. m ∷ ms) (variable_unlinked n word e id) (variables_unlinked n word e there ids)
+
+unlinked_append : (ms ms' : List Meaning) → all_unlinked (ms ++ ms') ≡ all_unlinked ms ++ all_unlinked ms'
+unlinked_append [] ms' = refl
+unlinked_append (m ∷ ms) ms' = ap (λ l. unlinked m ∷ l) (unlinked_append ms ms')
+
+with_unlinked : (n : Node) (word : VarDeclKind) (there : List Id) (ms : List Meaning) → with_variables n word there (all_unlinked ms) ≡ all_unlinked (with_variables n word there ms)
+with_unlinked n word there [] = refl
+with_unlinked n word there (m ∷ ms) =
+    ap₂ (λ vars rest. vars ++ (unlinked m ∷ rest)) (variables_unlinked n word m.is_export there m.part_names) (with_unlinked n word (there ++ m.merged_names) ms)
+    ∙ sym (unlinked_append (variables_for n word m.is_export there m.part_names) (m ∷ with_variables n word (there ++ m.merged_names) ms))
+
+module _ (n : Node) (ms : List Meaning) where
+  abbrev items : VarDeclKind → List Meaning
+  items word = with_variables n word [] ms
+
+  items_unlinked : {A : Type 0} (all : List Meaning → A) → ((ms : List Meaning) → all (all_unlinked ms) ≡ all ms) → (word : VarDeclKind) → all (with_variables n word [] (all_unlinked ms)) ≡ all (items word)
+  items_unlinked all same word = ap all (with_unlinked n word [] ms) ∙ same (items word)
+
 list_unlinked : (n : Node) (ms : List Meaning) → meaning_by n kind.List (all_unlinked ms) ≡ meaning_by n kind.List ms
 list_unlinked n ms = λ i. record (meaning_by n kind.List ms) {
   arguments = all_arguments_unlinked ms i;
@@ -168,10 +201,11 @@ list_unlinked n ms = λ i. record (meaning_by n kind.List ms) {
   matched = all_matched_unlinked ms i;
   targets = all_targets_unlinked ms i;
   parameters = all_parameters_unlinked ms i;
-  completion = all_completions_unlinked ms i;
+  completion = items_unlinked n ms all_completions all_completions_unlinked Let i;
   member = λ leaves_out ids. all_members_unlinked leaves_out ids ms i;
   varied = all_varied_unlinked ms i;
   hoisted = all_hoisted_unlinked ms i;
+  module_body = items_unlinked n ms all_completions all_completions_unlinked Var i;
   last = all_last_unlinked ms i;
   switched = all_switched_unlinked ms i;
   defined = all_defined_unlinked ms i;
@@ -179,15 +213,16 @@ list_unlinked n ms = λ i. record (meaning_by n kind.List ms) {
   statics = all_statics_unlinked ms i;
   code = all_code_unlinked ms i;
   names = all_names_unlinked ms i;
-  lexicals = all_lexicals_unlinked ms i;
+  lexicals = items_unlinked n ms all_lexicals all_lexicals_unlinked Let i;
   vars = all_vars_unlinked ms i;
+  locals = items_unlinked n ms all_vars all_vars_unlinked Var i ++ items_unlinked n ms all_lexicals all_lexicals_unlinked Var i;
   parameter_names = all_parameter_names_unlinked ms i;
   declared = all_declared_unlinked ms i;
   last_declared = all_last_declared_unlinked ms i;
   shorthands = all_shorthands_unlinked ms i;
   imported = all_imported_unlinked ms i;
   member_texts = all_member_texts_unlinked ms i;
-  exports = all_exports_unlinked ms i;
+  exports = items_unlinked n ms all_exports all_exports_unlinked Var i;
   cooked = all_cooked_unlinked ms i;
   is_plain = all_plain_unlinked ms i;
   is_type = all_types_unlinked ms i;

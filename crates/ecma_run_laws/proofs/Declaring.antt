@@ -14,7 +14,9 @@ use Rattle.ecma_runs.specs.Meaning.{Known}
 use Rattle.ecma_runs.specs.Observation.{exports_in, observe}
 use Rattle.ecma_runs.proofs.Exports.{LocalsPass}
 use Rattle.ecma_runs.proofs.Layer.{meaning-roll}
+use Rattle.ecma_runs.proofs.EnumTrees.{Lacks, lacks_parts}
 use Rattle.ecma_runs.proofs.Kept.{AllNodes}
+use Rattle.ecma_runs.proofs.Partless.{lacking_list}
 use Rattle.ecma_runs.proofs.Standing.{Passes, passes_parts, declares}
 use Rattle.ecma_run_laws.specs.Lessened.{statement_goes, lessened, without, module_of}
 use Rattle.ecma_run_laws.specs.Laws.{WhatIsUsedStays, NewNamesMayBeDeclared}
@@ -66,15 +68,21 @@ module _ (gone : Id → Bool) where
       let t = both_true (statement_goes gone n) (list_all (statement_goes gone) added) go in
       ap₂ (λ a b. a ++ b) (statement_exports gone nothing_known (false, refl) n t.0 None) (added_export added items t.1)
 
-module_exports : (span place : Span) (shebang : Option (List ℕ)) (items : List Node) → exports_in (module_of span shebang place items) ≡ all_exports (map meaning items) None
-module_exports span place shebang items =
+module_exports : (span place : Span) (shebang : Option (List ℕ)) (items : List Node) → AllNodes Lacks items → exports_in (module_of span shebang place items) ≡ all_exports (map meaning items) None
+module_exports span place shebang items lacks =
     ap (λ m. m.exports None) (meaning-roll (Layer span (kind.Module shebang) (node_of place kind.List items ∷ [])))
-    ∙ ap (λ m. m.exports None) (meaning-roll (Layer place kind.List items))
+    ∙ ap (λ m. m.exports None) (meaning-roll (Layer place kind.List items) ∙ lacking_list (node_of place kind.List items) items lacks)
+
+last_lack : (added items : List Node) → AllNodes Lacks (added ++ items) → AllNodes Lacks items
+last_lack [] items lacks = lacks
+last_lack (n ∷ added) items lacks = last_lack added items lacks.1
 
 pub new_names_may_be_declared : NewNamesMayBeDeclared
 new_names_may_be_declared gone turns options script span place shebang added items lacks default go pass =
     let e = without_added gone span place shebang added items go pass in
-    let same = module_exports span place shebang (added ++ items) ∙ added_export gone added items go ∙ sym (module_exports span place shebang items) in
+    let all : AllNodes Lacks (added ++ items) =
+    (lacks_parts (Layer place kind.List (added ++ items)) (lacks_parts (Layer span (kind.Module shebang) (node_of place kind.List (added ++ items) ∷ [])) lacks).1.0).1 in
+    let same = module_exports span place shebang (added ++ items) all ∙ added_export gone added items go ∙ sym (module_exports span place shebang items (last_lack added items all)) in
     let exported = (declares (stands gone) (module_of span shebang place items) pass).exports None default in
     sym (unused.unused_kept gone turns options (module_of span shebang place (added ++ items)) script lacks default (subst (LocalsPass (stands gone)) (sym same) exported) (subst (Passes (stands gone)) (sym e) pass))
     ∙ ap (λ m. observe turns options m script) e

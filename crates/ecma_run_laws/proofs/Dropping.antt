@@ -18,6 +18,7 @@ use Rattle.ecma_runs.proofs.Lists.{Silent, Item, Stays, Goes, before, behind}
 use Rattle.ecma_runs.proofs.Steps.{plain_list}
 use Rattle.ecma_runs.proofs.Kept.{AllNodes, Kept}
 use Rattle.ecma_runs.proofs.Layers.{the_same, without_enums, images_named}
+use Rattle.ecma_runs.proofs.Partless.{Partless, lacking_part, lacking_parts}
 use Rattle.ecma_runs.proofs.Standing.{Passes, passes_parts}
 use Rattle.ecma_run_laws.specs.Lessened.{Lessened, fewer, left_of, lessened_step, lessened, without}
 use Rattle.ecma_run_laws.proofs.Lessening.{IsOther, list_left, other_left}
@@ -39,7 +40,7 @@ module _ (gone : Id → Bool) where
 
   -- functions keep what is left of their nodes
   abbrev pub dropping : (known : Known) → HasNone known → Change
-  dropping known none = images_named Fine (without gone) names_left known (λ id kept free. refl) the_same (without_enums Fine (without gone) names_left true None known.enums none.0 none.1)
+  dropping known none = images_named Fine (without gone) names_left known (λ id kept free. refl) the_same (without_enums Fine (without gone) names_left true known.enums none.0 none.1)
 
   pub children_lack : (n : Node) → Lacks n → AllNodes Lacks (out-Node n).children
   children_lack n h = (lacks_parts (out-Node n) (subst Lacks (sym (roll-out-Node n)) h)).1
@@ -129,22 +130,35 @@ module _ (gone : Id → Bool) where
         go k is = other (subst IsOther (sym is) tt)
 
     -- in a role in which silence leaves what there is, the list means what it means
-    module _ {A : Type 0} (role : Meaning → A) (all : List Meaning → A) (is_all : (n : Node) (ms : List Meaning) → role (meaning_by n kind.List ms) ≡ all ms)
+
+    module _ {A : Type 0} (role : Meaning → A) (all : List Meaning → A)
         (join : A → A → A) (joined : (m : Meaning) (ms : List Meaning) → all (m ∷ ms) ≡ join (role m) (all ms)) (left_alone : (n : Node) → goes n ≡ true → role (silence (meaning n)) ≡ role (meaning n)) where
       role_item : (n : Node) (b : Bool) → goes n ≡ b → role (cond b (silence (meaning n)) (meaning n)) ≡ role (meaning n)
       role_item n true e = left_alone n e
       role_item n false e = refl
 
-      role_items : (ns : List Node) → all (map seen_item ns) ≡ all (map meaning ns)
+      pub role_items : (ns : List Node) → all (map seen_item ns) ≡ all (map meaning ns)
       role_items [] = refl
       role_items (n ∷ ns) =
           joined (seen_item n) (map seen_item ns) ∙ (ap (λ a. join a (all (map seen_item ns))) (role_item n (goes n) refl) ∙ ap (join (role (meaning n))) (role_items ns)) ∙ sym (joined (meaning n) (map meaning ns))
 
-      pub role_seen : (n : Node) → role (seen n) ≡ role (meaning n)
-      role_seen n = go (out-Node n).kind refl
+    module _ {A : Type 0} (role : Meaning → A) (all : List Meaning → A) (is_all : (n : Node) (ms : List Meaning) → Partless ms → role (meaning_by n kind.List ms) ≡ all ms)
+        (same : (ns : List Node) → all (map seen_item ns) ≡ all (map meaning ns)) (partless : (m : Meaning) → (silence m).part_names ≡ []) where
+      item_partless : (n : Node) (b : Bool) → Lacks n → (cond b (silence (meaning n)) (meaning n)).part_names ≡ []
+      item_partless n true lacks = partless (meaning n)
+      item_partless n false lacks = lacking_part n lacks
+
+      items_partless : (ns : List Node) → AllNodes Lacks ns → Partless (map seen_item ns)
+      items_partless [] lacks = tt
+      items_partless (n ∷ ns) lacks = (item_partless n (goes n) lacks.0, items_partless ns lacks.1)
+
+      pub role_seen : (n : Node) → Lacks n → role (seen n) ≡ role (meaning n)
+      role_seen n lacks = go (out-Node n).kind refl
         where
           go : (k : Kind) → (out-Node n).kind ≡ k → role (seen_by k n) ≡ role (meaning n)
           go kind.List is =
-              let e : meaning n ≡ meaning_by n kind.List (map meaning (out-Node n).children) = meaning_out n ∙ ap (λ k. meaning_by n k (map meaning (out-Node n).children)) is in
-              is_all n (map seen_item (out-Node n).children) ∙ (role_items (out-Node n).children ∙ (sym (is_all n (map meaning (out-Node n).children)) ∙ ap role (sym e)))
+              let ns : List Node = (out-Node n).children in
+              let below : AllNodes Lacks ns = children_lack n lacks in
+              let e : meaning n ≡ meaning_by n kind.List (map meaning ns) = meaning_out n ∙ ap (λ k. meaning_by n k (map meaning ns)) is in
+              is_all n (map seen_item ns) (items_partless ns below) ∙ (same ns ∙ (sym (is_all n (map meaning ns) (lacking_parts ns below)) ∙ ap role (sym e)))
           go k is = refl

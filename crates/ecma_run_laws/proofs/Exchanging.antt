@@ -39,8 +39,8 @@ module _ (test : Node → Bool) (f : Node → Node) (keeps : KeepsMeanings test 
   both_all [] p q = tt
   both_all (n ∷ cs) p q = ((p.0, q.0), both_all cs p.1 q.1)
 
-  abbrev known_enums : EnumsStand known.enums same_names true None f fine
-  known_enums = without_enums fine f same_names true None known.enums may_change none
+  abbrev known_enums : EnumsStand known.enums known.enums same_names true f fine
+  known_enums = without_enums fine f same_names true known.enums may_change none
 
   abbrev exchange : Change
   exchange = images_where fine f known the_same known_enums
@@ -56,7 +56,7 @@ pub equal_parts_may_stand_for_each_other : EqualPartsMayStandForEachOther
 equal_parts_may_stand_for_each_other test f keeps turns options m script passes lacks image =
     let none : enums_of options m ≡ no_enums options.ts_enum_is_mutable = lacking_enums options m lacks in
     ap (λ n. observe n options (f m) script) (sym (add-zero turns))
-    ∙ observe_unless (exchange test f keeps (known_of options m) options.ts_enum_is_mutable none) refl (steps test f keeps (known_of options m) options.ts_enum_is_mutable none) refl refl turns options m script
+    ∙ observe_unless (exchange test f keeps (known_of options m) options.ts_enum_is_mutable none) refl (steps test f keeps (known_of options m) options.ts_enum_is_mutable none) refl refl refl turns options m script
     (passes, lacks) refl (lacking_enums options (f m) image ∙ sym none) plain_starts tt tt (none_excused _)
 
 -- a map that keeps layers, of a tree without enums with an image without

@@ -12,7 +12,7 @@ use Rattle.ecma_runs.specs.Run.{◌>>=◌, give}
 use Rattle.ecma_runs.specs.Environment.{initialize, empty, undefined, import_of}
 use Rattle.ecma_runs.specs.Meaning.{Known, ExecutionContext, Evaluation, Meaning}
 use Rattle.ecma_runs.specs.Declarations.{all_names, all_imported, imported_as, imported_from, is_absent_of}
-use Rattle.ecma_runs.specs.Evaluation.{no_effect, meaning_by, meaning}
+use Rattle.ecma_runs.specs.Evaluation.{role_by, no_effect, meaning_by, meaning}
 use Rattle.ecma_runs.specs.Exports.{Exported}
 use Rattle.ecma_runs.proofs.Layer.{meaning_out}
 use Rattle.ecma_runs.proofs.Exports.{changed_exports}
@@ -21,6 +21,7 @@ use Rattle.ecma_runs.proofs.Alike.{Change, Alike, bind_alike, give_alike}
 use Rattle.ecma_runs.proofs.Environments.{initialize_alike}
 use Rattle.ecma_runs.proofs.Meanings.{at, World, first, empties, imports, undefineds}
 use Rattle.ecma_runs.proofs.Lists.{Silent}
+use Rattle.ecma_runs.proofs.Partless.{Partless, list_is}
 use Rattle.ecma_run_laws.proofs.Both.{both_true}
 use Rattle.ecma_run_laws.specs.Lessened.{are_gone, is_name_by, is_name, is_idle_declarator_by, declarator_goes, is_specifier_by, specifier_goes, all_go_by, all_go, is_idle_by, statement_goes}
 use Rattle.ecma_run_laws.proofs.Dropping.{HasNone, names_left, dropping}
@@ -87,6 +88,8 @@ module _ (gone : Id → Bool) (known : Known) (none : HasNone known) where
     last_declared = refl;
     imported = i;
     member_texts = λ has. refl;
+    part_names = refl;
+    merged_names = λ has. refl;
     exports = λ source. ap (changed_exports (names_left gone)) (e source);
     cooked = refl;
     is_plain = refl;
@@ -142,6 +145,7 @@ module _ (gone : Id → Bool) (known : Known) (none : HasNone known) where
   missing n h = subst Missing (sym (meaning_out n)) (missing_by n (out-Node n).kind (map meaning (out-Node n).children) h)
 
   record IdleDeclarator (m : Meaning) : Type 0 where
+    part_names : m.part_names ≡ []
     completion : DoesNothing m.completion
     varied : DoesNothing m.varied
     names : NoneLeft m.names
@@ -160,6 +164,7 @@ module _ (gone : Id → Bool) (known : Known) (none : HasNone known) where
       let i = missing init t.1 in
       let e : NoneLeft (meaning name).names = none_left (meaning name).names (first_gone (meaning name).names ((meaning name).declared ++ (meaning init).declared) d) in
       record {
+        part_names = refl;
         completion = does_nothing (λ x. initialize x.scope (meaning name).names Undefined) _ (λ j x. i.initial x j >>= λ v. m.bound v x j) (initialized (meaning name).names e);
         varied = does_nothing nothing _ (ap (λ b. (λ x. (meaning_by n (kind.VarDeclarator definite) (meaning name ∷ record (meaning init) { is_absent = b } ∷ [])).varied x)) i.is_absent) nothing_done;
         names = e;
@@ -209,18 +214,26 @@ module _ (gone : Id → Bool) (known : Known) (none : HasNone known) where
 
   -- lists of which all go
 
-  declarators : (n : Node) (ns : List Node) → list_all (declarator_goes gone) ns ≡ true → IdleDeclarator (meaning_by n kind.List (map meaning ns))
+  partless : (ns : List Node) → list_all (declarator_goes gone) ns ≡ true → Partless (map meaning ns)
+  partless [] h = tt
+  partless (d ∷ ns) h = let t = both_true (declarator_goes gone d) (list_all (declarator_goes gone) ns) h in ((declarator d t.0).0.part_names, partless ns t.1)
+
+  each_declarator : (n : Node) (ns : List Node) → list_all (declarator_goes gone) ns ≡ true → IdleDeclarator (role_by n kind.List (map meaning ns))
   unfolding DoesNothing
-  declarators n [] h = record { completion = λ a w. give_alike (at c a) tt; varied = λ a w. give_alike (at c a) tt; names = refl }
-  declarators n (d ∷ ns) h =
+  each_declarator n [] h = record { part_names = refl; completion = λ a w. give_alike (at c a) tt; varied = λ a w. give_alike (at c a) tt; names = refl }
+  each_declarator n (d ∷ ns) h =
       let t = both_true (declarator_goes gone d) (list_all (declarator_goes gone) ns) h in
       let one = (declarator d t.0).0 in
-      let rest = declarators n ns t.1 in
+      let rest = each_declarator n ns t.1 in
       record {
+        part_names = refl;
         completion = λ a w. bind_alike (at c a) {k' = λ _. give tt} (one.completion a w) (λ _. rest.completion a w);
         varied = λ a w. bind_alike (at c a) {k' = λ _. give tt} (one.varied a w) (λ _. rest.varied a w);
         names = joined (meaning d).names (all_names (map meaning ns)) one.names rest.names;
       }
+
+  declarators : (n : Node) (ns : List Node) → list_all (declarator_goes gone) ns ≡ true → IdleDeclarator (meaning_by n kind.List (map meaning ns))
+  declarators n ns h = subst IdleDeclarator (sym (list_is n (map meaning ns) (partless ns h))) (each_declarator n ns h)
 
   specifiers : (n : Node) (ns : List Node) → list_all (specifier_goes gone) ns ≡ true → IdleSpecifier (meaning_by n kind.List (map meaning ns))
   specifiers n [] h = record { imported = λ source. refl }

@@ -175,11 +175,13 @@ module _ (known : Known) (may_change : Bool) (none : known.enums ≡ no_enums ma
     uses = true;
     said = λ events. Unit {0};
     adds = λ u events event h. tt;
-    enums = without_enums Lacks lowered same_names true (Some function_for) known.enums may_change none;
+    there = changed_known same_names known;
+    declares = λ id kept. refl;
+    enums = without_enums Lacks lowered same_names true known.enums may_change none;
   }
 
-  abbrev plainly : EnumsStand known.enums same_names true None lowered Lacks
-  plainly = without_enums Lacks lowered same_names true None known.enums may_change none
+  abbrev plainly : EnumsStand known.enums known.enums same_names true lowered Lacks
+  plainly = without_enums Lacks lowered same_names true known.enums may_change none
 
   module _ (k : ℕ) where
     abbrev c : Change
@@ -342,6 +344,7 @@ module _ (known : Known) (may_change : Bool) (none : known.enums ≡ no_enums ma
           member = λ has leaves_out ids w s. outside_alike (at c _);
           varied = λ w s. outside_alike (at c _);
           hoisted = λ w s. give_alike (at c _) tt;
+          module_body = λ w s. outside_alike (at c _);
           last = λ w s. give_alike (at c _) tt;
           effect = λ w s. bind_alike (at c _) {A = Value} (outside_alike (at c _)) (λ _. give_alike (at c _) tt);
           test = λ w s. outside_alike (at c _);
@@ -367,6 +370,10 @@ module _ (known : Known) (may_change : Bool) (none : known.enums ≡ no_enums ma
           imported = λ source. refl;
           text = λ texts. refl;
           member_texts = λ has. refl;
+          part_names = λ has. refl;
+          merged_names = λ has. refl;
+          no_part = λ lacks. (refl, refl);
+          is_export = refl;
           exports = λ source. refl;
           cooked = refl;
           is_plain = refl;
@@ -423,7 +430,7 @@ blocks_may_be_called_as_functions turns options m script lacks h =
     let known : Known = known_of options m in
     let none : known.enums ≡ no_enums options.ts_enum_is_mutable = lacking_enums options m lacks in
     ap (λ n. observe n options (lowered m) script) (sym (add-zero turns))
-    ∙ observe_while (c known options.ts_enum_is_mutable none turns) refl (lowering_steps known options.ts_enum_is_mutable none turns) refl script
+    ∙ observe_while (c known options.ts_enum_is_mutable none turns) refl (lowering_steps known options.ts_enum_is_mutable none turns) refl refl script
     (λ u. calls_in (lowering known options.ts_enum_is_mutable none) (lowering_steps known options.ts_enum_is_mutable none) refl (provided_by script) turns) turns options m lacks refl
     (lacking_enums options (lowered m) (lowered_lacks m lacks) ∙ sym none) plain_starts (omega arith) tt
     (only_outside_excused (observe turns options m script).ending h)

@@ -89,6 +89,7 @@ module _ (gone : Id → Bool) where
   layer_names n kind.TsQualifiedName (left ∷ right ∷ []) h all = tt
   layer_names n (kind.TsImportEqualsDecl false false) (name ∷ source ∷ []) h all = tt
   layer_names n (kind.TsImportEqualsDecl true false) (name ∷ source ∷ []) h all = either_names (meaning source).is_required _ _ tt tt
+  layer_names n kind.List cs h all = all_names_stand cs all
   layer_names n (kind.TsEnumDecl false is_const) (name ∷ members ∷ []) h all = tt
   layer_names n kind.TsEnumMember (name ∷ init ∷ []) h all = tt
   layer_names n k cs h all = either_names (has_no_effect k (map meaning cs)) (no_effect n) (role_by n k (map meaning cs)) tt (role_names k cs h all)

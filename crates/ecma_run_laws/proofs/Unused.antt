@@ -18,7 +18,7 @@ use Rattle.ecma_runs.specs.declared.script.Script.{Script}
 use Rattle.ecma_runs.specs.Run.{◌>>=◌}
 use Rattle.ecma_runs.specs.Meaning.{Known, Evaluation, Meaning}
 use Rattle.ecma_runs.specs.Statements.{all_completions, all_varied, all_hoisted, all_last}
-use Rattle.ecma_runs.specs.Declarations.{all_names, all_declared, all_last_declared, all_vars, all_lexicals, all_imported, imported_from, all_exports}
+use Rattle.ecma_runs.specs.Declarations.{all_names, all_declared, all_last_declared, all_vars, all_lexicals, all_imported, imported_from, all_exports, locals_of}
 use Rattle.ecma_runs.specs.Evaluation.{meaning_by, meaning}
 use Rattle.ecma_runs.specs.Observation.{known_of, exports_in, observe}
 use Rattle.ecma_runs.specs.Names.{passes_by}
@@ -31,13 +31,14 @@ use Rattle.ecma_runs.proofs.Premises.{renamed_kind, StillClash, KeptLayer}
 use Rattle.ecma_runs.proofs.Steps.{plain_step}
 use Rattle.ecma_runs.proofs.Kept.{AllNodes, Kept, StepsAlike, layer_same, observe_unless}
 use Rattle.ecma_runs.proofs.Layers.{texts_stay, none_excused}
+use Rattle.ecma_runs.proofs.Partless.{Partless, list_is}
 use Rattle.ecma_runs.proofs.Standing.{Passes}
 use Rattle.ecma_run_laws.specs.Lessened.{declarator_goes, specifier_goes, statement_goes, left_of, lessened, without}
 use Rattle.ecma_run_laws.specs.Laws.{UnusedNamesDoNotMatter}
 use Rattle.ecma_run_laws.proofs.Lessening.{less_all, image}
 use Rattle.ecma_run_laws.proofs.Lacking.{without_lacks}
 use Rattle.ecma_run_laws.proofs.Both.{both_true}
-use Rattle.ecma_run_laws.proofs.Dropping.{HasNone, Fine, stands, names_left, dropping, seen, seen_alike, role_seen}
+use Rattle.ecma_run_laws.proofs.Dropping.{HasNone, Fine, stands, names_left, dropping, seen_item, seen, seen_alike, role_items, role_seen}
 use Rattle.ecma_run_laws.proofs.Going.{silent_statement, silent_declarator, silent_specifier, statement_silent, declarator_silent, specifier_silent}
 use Rattle.ecma_run_laws.proofs.Standing.{Layer, each_of, IsFine, parts_left, parts_fine, names_stand, still_clash}
 
@@ -58,7 +59,7 @@ module _ (gone : Id → Bool) (default : stands gone default_name ≡ true) (kno
   still parameters body fine = still_clash gone (meaning parameters).names (names_stand gone parameters fine) (meaning body).locals
 
   layer_kept : (k : Kind) (cs : List Node) → not (is_enum k) ≡ true → passes_by (stands gone) k ≡ true → AllNodes (IsFine gone) cs → KeptLayer c k (map meaning cs)
-  layer_kept (kind.Ident text ctxt optional) cs here h all = (h, refl)
+  layer_kept (kind.Ident text ctxt optional) cs here h all = (h, refl, λ has. refl)
   layer_kept kind.ExportDefaultExpr cs here h all = (default, refl)
   layer_kept kind.FnExpr cs here h all = (default, refl)
   layer_kept kind.ClassExpr cs here h all = (default, refl)
@@ -85,6 +86,7 @@ module _ (gone : Id → Bool) (default : stands gone default_name ≡ true) (kno
   layer_kept kind.SetterProp (key ∷ this_parameter ∷ parameter ∷ body ∷ []) here h all = still parameter body all.1.1.0
   layer_kept (kind.Constructor accessibility is_optional) (key ∷ parameters ∷ body ∷ []) here h all = still parameters body all.1.0
   layer_kept (kind.TsEnumDecl false is_const) cs here h all = absurd (cc)
+  layer_kept kind.TsEnumMember cs here h all = absurd (cc)
   layer_kept _ cs here h all = tt
 
   with_kept : (cs : List Node) → AllNodes (Kept c) cs → List ((n : Node) × Kept c n)
@@ -139,78 +141,110 @@ module _ (gone : Id → Bool) (default : stands gone default_name ≡ true) (kno
   abbrev specifiers_seen : Node → Meaning
   specifiers_seen n = seen gone known none (specifier_goes gone) (λ l. l.specifiers) (λ parts. refl) silent_specifier (specifier_silent gone known none) n
 
-  module _ {A : Type 0} (role : Meaning → A) (all : List Meaning → A) (is_all : (n : Node) (ms : List Meaning) → role (meaning_by n kind.List ms) ≡ all ms)
+  module _ {A : Type 0} (role : Meaning → A) (all : List Meaning → A) (is_all : (n : Node) (ms : List Meaning) → Partless ms → role (meaning_by n kind.List ms) ≡ all ms)
       (join : A → A → A) (joined : (m : Meaning) (ms : List Meaning) → all (m ∷ ms) ≡ join (role m) (all ms)) where
-    statements_role : ((m : Meaning) → role (silent_statement m) ≡ role m) → (n : Node) → role (statements_seen n) ≡ role (meaning n)
-    statements_role alone n =
-        role_seen gone known none (statement_goes gone) (λ l. l.statements) (λ parts. refl) silent_statement (statement_silent gone known none) role all is_all join joined (λ n e. alone (meaning n)) n
+    statements_role : ((m : Meaning) → role (silent_statement m) ≡ role m) → (n : Node) → Lacks n → role (statements_seen n) ≡ role (meaning n)
+    statements_role alone =
+        role_seen gone known none (statement_goes gone) (λ l. l.statements) (λ parts. refl) silent_statement (statement_silent gone known none) role all is_all
+        (role_items gone known none (statement_goes gone) (λ l. l.statements) (λ parts. refl) silent_statement (statement_silent gone known none) role all join joined (λ n e. alone (meaning n))) (λ m. refl)
 
-    declarators_role : ((m : Meaning) → role (silent_declarator m) ≡ role m) → (n : Node) → role (declarators_seen n) ≡ role (meaning n)
-    declarators_role alone n =
-        role_seen gone known none (declarator_goes gone) (λ l. l.declarators) (λ parts. refl) silent_declarator (declarator_silent gone known none) role all is_all join joined (λ n e. alone (meaning n)) n
+    declarators_role : ((m : Meaning) → role (silent_declarator m) ≡ role m) → (n : Node) → Lacks n → role (declarators_seen n) ≡ role (meaning n)
+    declarators_role alone =
+        role_seen gone known none (declarator_goes gone) (λ l. l.declarators) (λ parts. refl) silent_declarator (declarator_silent gone known none) role all is_all
+        (role_items gone known none (declarator_goes gone) (λ l. l.declarators) (λ parts. refl) silent_declarator (declarator_silent gone known none) role all join joined (λ n e. alone (meaning n))) (λ m. refl)
 
-    specifiers_role : ((m : Meaning) → role (silent_specifier m) ≡ role m) → (n : Node) → role (specifiers_seen n) ≡ role (meaning n)
-    specifiers_role alone n =
-        role_seen gone known none (specifier_goes gone) (λ l. l.specifiers) (λ parts. refl) silent_specifier (specifier_silent gone known none) role all is_all join joined (λ n e. alone (meaning n)) n
+    specifiers_role : ((m : Meaning) → role (silent_specifier m) ≡ role m) → (n : Node) → Lacks n → role (specifiers_seen n) ≡ role (meaning n)
+    specifiers_role alone =
+        role_seen gone known none (specifier_goes gone) (λ l. l.specifiers) (λ parts. refl) silent_specifier (specifier_silent gone known none) role all is_all
+        (role_items gone known none (specifier_goes gone) (λ l. l.specifiers) (λ parts. refl) silent_specifier (specifier_silent gone known none) role all join joined (λ n e. alone (meaning n))) (λ m. refl)
+
+  statements_items : {A : Type 0} (role : Meaning → A) (all : List Meaning → A) (join : A → A → A) → ((m : Meaning) (ms : List Meaning) → all (m ∷ ms) ≡ join (role m) (all ms)) → ((m : Meaning) → role (silent_statement m) ≡ role m)
+      → (ns : List Node) → all (map (seen_item gone known none (statement_goes gone) (λ l. l.statements) (λ parts. refl) silent_statement (statement_silent gone known none)) ns) ≡ all (map meaning ns)
+  statements_items role all join joined alone =
+      role_items gone known none (statement_goes gone) (λ l. l.statements) (λ parts. refl) silent_statement (statement_silent gone known none) role all join joined (λ n e. alone (meaning n))
+
+  -- the items of a module
+  statements_body : (n : Node) → Lacks n → (statements_seen n).module_body ≡ (meaning n).module_body
+  statements_body =
+      role_seen gone known none (statement_goes gone) (λ l. l.statements) (λ parts. refl) silent_statement (statement_silent gone known none) (λ m. m.module_body) all_completions (λ n ms none. ap (λ m. m.module_body) (list_is n ms none))
+      (statements_items (λ m. m.completion) all_completions both_evaluations (λ m ms. refl) (λ m. refl)) (λ m. refl)
+
+  -- the variables of a module
+  statements_locals : (n : Node) → Lacks n → (statements_seen n).locals ≡ (meaning n).locals
+  statements_locals =
+      role_seen gone known none (statement_goes gone) (λ l. l.statements) (λ parts. refl) silent_statement (statement_silent gone known none) (λ m. m.locals) (locals_of kind.List) (λ n ms none. ap (λ m. m.locals) (list_is n ms none))
+      (λ ns. ap₂ (λ a b. a ++ b) (statements_items (λ m. m.vars) all_vars (λ a b. a ++ b) (λ m ms. refl) (λ m. refl) ns) (statements_items (λ m. m.lexicals) all_lexicals (λ a b. a ++ b) (λ m ms. refl) (λ m. refl) ns)) (λ m. refl)
 
   -- in the roles in which the list is used it means what it means
 
   abbrev LikeStatements : Meaning → Meaning → Meaning
-  LikeStatements m m' =
-      record m { vars = m'.vars; lexicals = m'.lexicals; hoisted = m'.hoisted; completion = m'.completion; last = m'.last; declared = m'.declared; last_declared = m'.last_declared; exports = m'.exports }
+  LikeStatements m m' = record m {
+    vars = m'.vars;
+    lexicals = m'.lexicals;
+    locals = m'.locals;
+    hoisted = m'.hoisted;
+    completion = m'.completion;
+    module_body = m'.module_body;
+    last = m'.last;
+    declared = m'.declared;
+    last_declared = m'.last_declared;
+    exports = m'.exports;
+  }
 
-  like_statements : (n : Node) → LikeStatements (meaning n) (statements_seen n) ≡ meaning n
-  like_statements n = λ i. record (meaning n) {
-    vars = statements_role (λ m. m.vars) all_vars (λ n ms. refl) (λ a b. a ++ b) (λ m ms. refl) (λ m. refl) n i;
-    lexicals = statements_role (λ m. m.lexicals) all_lexicals (λ n ms. refl) (λ a b. a ++ b) (λ m ms. refl) (λ m. refl) n i;
-    hoisted = statements_role (λ m. m.hoisted) all_hoisted (λ n ms. refl) both_evaluations (λ m ms. refl) (λ m. refl) n i;
-    completion = statements_role (λ m. m.completion) all_completions (λ n ms. refl) both_evaluations (λ m ms. refl) (λ m. refl) n i;
-    last = statements_role (λ m. m.last) all_last (λ n ms. refl) both_evaluations (λ m ms. refl) (λ m. refl) n i;
-    last_declared = statements_role (λ m. m.last_declared) all_last_declared (λ n ms. refl) (λ a b. a ++ b) (λ m ms. refl) (λ m. refl) n i;
-    exports = statements_role (λ m. m.exports) all_exports (λ n ms. refl) (λ a b source. a source ++ b source) (λ m ms. refl) (λ m. refl) n i;
-    declared = statements_role (λ m. m.declared) all_declared (λ n ms. refl) (λ a b. a ++ b) (λ m ms. refl) (λ m. refl) n i;
+  like_statements : (n : Node) → Lacks n → LikeStatements (meaning n) (statements_seen n) ≡ meaning n
+  like_statements n lacks = λ i. record (meaning n) {
+    vars = statements_role (λ m. m.vars) all_vars (λ n ms none. refl) (λ a b. a ++ b) (λ m ms. refl) (λ m. refl) n lacks i;
+    lexicals = statements_role (λ m. m.lexicals) all_lexicals (λ n ms none. ap (λ m. m.lexicals) (list_is n ms none)) (λ a b. a ++ b) (λ m ms. refl) (λ m. refl) n lacks i;
+    locals = statements_locals n lacks i;
+    hoisted = statements_role (λ m. m.hoisted) all_hoisted (λ n ms none. refl) both_evaluations (λ m ms. refl) (λ m. refl) n lacks i;
+    completion = statements_role (λ m. m.completion) all_completions (λ n ms none. ap (λ m. m.completion) (list_is n ms none)) both_evaluations (λ m ms. refl) (λ m. refl) n lacks i;
+    module_body = statements_body n lacks i;
+    last = statements_role (λ m. m.last) all_last (λ n ms none. refl) both_evaluations (λ m ms. refl) (λ m. refl) n lacks i;
+    last_declared = statements_role (λ m. m.last_declared) all_last_declared (λ n ms none. refl) (λ a b. a ++ b) (λ m ms. refl) (λ m. refl) n lacks i;
+    exports = statements_role (λ m. m.exports) all_exports (λ n ms none. ap (λ m. m.exports) (list_is n ms none)) (λ a b source. a source ++ b source) (λ m ms. refl) (λ m. refl) n lacks i;
+    declared = statements_role (λ m. m.declared) all_declared (λ n ms none. refl) (λ a b. a ++ b) (λ m ms. refl) (λ m. refl) n lacks i;
   }
 
   abbrev LikeDeclarators : Meaning → Meaning → Meaning
   LikeDeclarators m m' = record m { names = m'.names; completion = m'.completion; varied = m'.varied; declared = m'.declared }
 
-  like_declarators : (n : Node) → LikeDeclarators (meaning n) (declarators_seen n) ≡ meaning n
-  like_declarators n = λ i. record (meaning n) {
-    names = declarators_role (λ m. m.names) all_names (λ n ms. refl) (λ a b. a ++ b) (λ m ms. refl) (λ m. refl) n i;
-    completion = declarators_role (λ m. m.completion) all_completions (λ n ms. refl) both_evaluations (λ m ms. refl) (λ m. refl) n i;
-    varied = declarators_role (λ m. m.varied) all_varied (λ n ms. refl) both_evaluations (λ m ms. refl) (λ m. refl) n i;
-    declared = declarators_role (λ m. m.declared) all_declared (λ n ms. refl) (λ a b. a ++ b) (λ m ms. refl) (λ m. refl) n i;
+  like_declarators : (n : Node) → Lacks n → LikeDeclarators (meaning n) (declarators_seen n) ≡ meaning n
+  like_declarators n lacks = λ i. record (meaning n) {
+    names = declarators_role (λ m. m.names) all_names (λ n ms none. refl) (λ a b. a ++ b) (λ m ms. refl) (λ m. refl) n lacks i;
+    completion = declarators_role (λ m. m.completion) all_completions (λ n ms none. ap (λ m. m.completion) (list_is n ms none)) both_evaluations (λ m ms. refl) (λ m. refl) n lacks i;
+    varied = declarators_role (λ m. m.varied) all_varied (λ n ms none. refl) both_evaluations (λ m ms. refl) (λ m. refl) n lacks i;
+    declared = declarators_role (λ m. m.declared) all_declared (λ n ms none. refl) (λ a b. a ++ b) (λ m ms. refl) (λ m. refl) n lacks i;
   }
 
   abbrev LikeSpecifiers : Meaning → Meaning → Meaning
   LikeSpecifiers m m' = record m { imported = m'.imported; declared = m'.declared }
 
-  like_specifiers : (n : Node) → LikeSpecifiers (meaning n) (specifiers_seen n) ≡ meaning n
-  like_specifiers n = λ i. record (meaning n) {
-    imported = specifiers_role (λ m. m.imported) all_imported (λ n ms. refl) (λ a b source. a source ++ b source) (λ m ms. refl) (λ m. refl) n i;
-    declared = specifiers_role (λ m. m.declared) all_declared (λ n ms. refl) (λ a b. a ++ b) (λ m ms. refl) (λ m. refl) n i;
+  like_specifiers : (n : Node) → Lacks n → LikeSpecifiers (meaning n) (specifiers_seen n) ≡ meaning n
+  like_specifiers n lacks = λ i. record (meaning n) {
+    imported = specifiers_role (λ m. m.imported) all_imported (λ n ms none. refl) (λ a b source. a source ++ b source) (λ m ms. refl) (λ m. refl) n lacks i;
+    declared = specifiers_role (λ m. m.declared) all_declared (λ n ms none. refl) (λ a b. a ++ b) (λ m ms. refl) (λ m. refl) n lacks i;
   }
 
-  module_like : (n : Node) (shebang : Option (List ℕ)) (body : Node) → meaning_by n (kind.Module shebang) (statements_seen body ∷ []) ≡ meaning_by n (kind.Module shebang) (meaning body ∷ [])
-  module_like n shebang body = ap (λ m. meaning_by n (kind.Module shebang) (m ∷ [])) (like_statements body)
+  module_like : (n : Node) (shebang : Option (List ℕ)) (body : Node) → Lacks body → meaning_by n (kind.Module shebang) (statements_seen body ∷ []) ≡ meaning_by n (kind.Module shebang) (meaning body ∷ [])
+  module_like n shebang body lacks = ap (λ m. meaning_by n (kind.Module shebang) (m ∷ [])) (like_statements body lacks)
 
-  block_like : (n body : Node) → meaning_by n kind.BlockStmt (statements_seen body ∷ []) ≡ meaning_by n kind.BlockStmt (meaning body ∷ [])
-  block_like n body = ap (λ m. meaning_by n kind.BlockStmt (m ∷ [])) (like_statements body)
+  block_like : (n body : Node) → Lacks body → meaning_by n kind.BlockStmt (statements_seen body ∷ []) ≡ meaning_by n kind.BlockStmt (meaning body ∷ [])
+  block_like n body lacks = ap (λ m. meaning_by n kind.BlockStmt (m ∷ [])) (like_statements body lacks)
 
-  declaration_like : (n : Node) (word : VarDeclKind) (ds : Node) → meaning_by n (kind.VarDecl word false) (declarators_seen ds ∷ []) ≡ meaning_by n (kind.VarDecl word false) (meaning ds ∷ [])
-  declaration_like n Var ds = ap (λ m. meaning_by n (kind.VarDecl Var false) (m ∷ [])) (like_declarators ds)
-  declaration_like n Let ds = ap (λ m. meaning_by n (kind.VarDecl Let false) (m ∷ [])) (like_declarators ds)
-  declaration_like n Const ds = ap (λ m. meaning_by n (kind.VarDecl Const false) (m ∷ [])) (like_declarators ds)
+  declaration_like : (n : Node) (word : VarDeclKind) (ds : Node) → Lacks ds → meaning_by n (kind.VarDecl word false) (declarators_seen ds ∷ []) ≡ meaning_by n (kind.VarDecl word false) (meaning ds ∷ [])
+  declaration_like n Var ds lacks = ap (λ m. meaning_by n (kind.VarDecl Var false) (m ∷ [])) (like_declarators ds lacks)
+  declaration_like n Let ds lacks = ap (λ m. meaning_by n (kind.VarDecl Let false) (m ∷ [])) (like_declarators ds lacks)
+  declaration_like n Const ds lacks = ap (λ m. meaning_by n (kind.VarDecl Const false) (m ∷ [])) (like_declarators ds lacks)
 
-  lexicals_like : (o : Option (List ℕ)) (ss : Node) → imported_from o (specifiers_seen ss) ≡ imported_from o (meaning ss)
-  lexicals_like None ss = refl
-  lexicals_like (Some source) ss = ap (λ m. m.imported source) (like_specifiers ss)
+  lexicals_like : (o : Option (List ℕ)) (ss : Node) → Lacks ss → imported_from o (specifiers_seen ss) ≡ imported_from o (meaning ss)
+  lexicals_like None ss lacks = refl
+  lexicals_like (Some source) ss lacks = ap (λ m. m.imported source) (like_specifiers ss lacks)
 
-  import_like : (n ss source attributes : Node)
+  import_like : (n ss source attributes : Node) → Lacks ss
       → meaning_by n (kind.ImportDecl false) (specifiers_seen ss ∷ meaning source ∷ meaning attributes ∷ []) ≡ meaning_by n (kind.ImportDecl false) (meaning ss ∷ meaning source ∷ meaning attributes ∷ [])
-  import_like n ss source attributes = λ i. record (meaning_by n (kind.ImportDecl false) (meaning ss ∷ meaning source ∷ meaning attributes ∷ [])) {
-    lexicals = lexicals_like (meaning source).text ss i;
-    declared = ap (λ m. m.declared) (like_specifiers ss) i ++ ((meaning source).declared ++ ((meaning attributes).declared ++ []));
+  import_like n ss source attributes lacks = λ i. record (meaning_by n (kind.ImportDecl false) (meaning ss ∷ meaning source ∷ meaning attributes ∷ [])) {
+    lexicals = lexicals_like (meaning source).text ss lacks i;
+    declared = ap (λ m. m.declared) (like_specifiers ss lacks) i ++ ((meaning source).declared ++ ((meaning attributes).declared ++ []));
   }
 
   -- each node, and the items of lists
@@ -241,15 +275,15 @@ module _ (gone : Id → Bool) (default : stands gone default_name ≡ true) (kno
   layer_step span (kind.Module shebang) (body ∷ []) deep fine =
       let x : Node-F Node = Layer span (kind.Module shebang) (body ∷ []) in
       let p = statements_both body deep.0 (lacks_parts x fine.1).1.0 (parts_left gone x fine.0).1.0 in
-      parent_step span (kind.Module shebang) (body ∷ []) (p ∷ []) fine tt (module_like (roll-Node (Layer span (kind.Module shebang) (body ∷ []))) shebang body) refl
+      parent_step span (kind.Module shebang) (body ∷ []) (p ∷ []) fine tt (module_like (roll-Node (Layer span (kind.Module shebang) (body ∷ []))) shebang body (lacks_parts x fine.1).1.0) refl
   layer_step span kind.BlockStmt (body ∷ []) deep fine =
       let x : Node-F Node = Layer span kind.BlockStmt (body ∷ []) in
       let p = statements_both body deep.0 (lacks_parts x fine.1).1.0 (parts_left gone x fine.0).1.0 in
-      parent_step span kind.BlockStmt (body ∷ []) (p ∷ []) fine tt (block_like (roll-Node (Layer span kind.BlockStmt (body ∷ []))) body) refl
+      parent_step span kind.BlockStmt (body ∷ []) (p ∷ []) fine tt (block_like (roll-Node (Layer span kind.BlockStmt (body ∷ []))) body (lacks_parts x fine.1).1.0) refl
   layer_step span (kind.VarDecl word false) (ds ∷ []) deep fine =
       let x : Node-F Node = Layer span (kind.VarDecl word false) (ds ∷ []) in
       let p = declarators_both ds deep.0 (lacks_parts x fine.1).1.0 (parts_left gone x fine.0).1.0 in
-      parent_step span (kind.VarDecl word false) (ds ∷ []) (p ∷ []) fine tt (declaration_like (roll-Node (Layer span (kind.VarDecl word false) (ds ∷ []))) word ds) refl
+      parent_step span (kind.VarDecl word false) (ds ∷ []) (p ∷ []) fine tt (declaration_like (roll-Node (Layer span (kind.VarDecl word false) (ds ∷ []))) word ds (lacks_parts x fine.1).1.0) refl
   layer_step span (kind.ImportDecl false) (ss ∷ source ∷ attributes ∷ []) deep fine =
       let x : Node-F Node = Layer span (kind.ImportDecl false) (ss ∷ source ∷ attributes ∷ []) in
       let t = (parts_left gone x fine.0).1 in
@@ -257,7 +291,7 @@ module _ (gone : Id → Bool) (default : stands gone default_name ≡ true) (kno
       let p = specifiers_both ss deep.0 l.0 t.0 in
       let q : Both c = pair c (meaning source) (meaning (without gone source)) (deep.1.0.0 (t.1.0, l.1.0)) in
       let r : Both c = pair c (meaning attributes) (meaning (without gone attributes)) (deep.1.1.0.0 (t.1.1.0, l.1.1.0)) in
-      parent_step span (kind.ImportDecl false) (ss ∷ source ∷ attributes ∷ []) (p ∷ q ∷ r ∷ []) fine (texts_stay (meaning source).shorthands) (import_like (roll-Node (Layer span (kind.ImportDecl false) (ss ∷ source ∷ attributes ∷ []))) ss source attributes) refl
+      parent_step span (kind.ImportDecl false) (ss ∷ source ∷ attributes ∷ []) (p ∷ q ∷ r ∷ []) fine (texts_stay (meaning source).shorthands) (import_like (roll-Node (Layer span (kind.ImportDecl false) (ss ∷ source ∷ attributes ∷ []))) ss source attributes l.0) refl
   layer_step span k cs deep fine = other_step span k cs (deep_kept cs deep) fine refl
 
   deep : (n : Node) → Deep n
@@ -276,7 +310,7 @@ unused_kept gone turns options m script lacks default exported unused =
     let known : Known = known_of options m in
     let none : HasNone known = (options.ts_enum_is_mutable, lacking_enums options m lacks) in
     ap (λ n. observe n options (without gone m) script) (sym (add-zero turns))
-    ∙ observe_unless (dropping gone known none) refl (steps gone default known none) refl refl turns options m script (unused, lacks) refl
+    ∙ observe_unless (dropping gone known none) refl (steps gone default known none) refl refl refl turns options m script (unused, lacks) refl
     (lacking_enums options (without gone m) (without_lacks gone m lacks) ∙ sym none.1)
     (tt, record { free = tt }, tt, keeps_plain (names_left gone) refl (ids_of (meaning m).locals) (exports_in m) exported (texts_stay (export_names (exports_in m)))) tt tt (none_excused _)
 

@@ -5,7 +5,7 @@ use Rattle.ecma_runs.specs.declared.script.ImportValue.{ImportValue}
 use Rattle.ecma_runs.specs.declared.shown.Shown.{Shown}
 use Rattle.ecma_runs.specs.declared.shown.Shown.TheVariants as shown
 use Rattle.ecma_runs.specs.Values.{Value}
-use Rattle.ecma_runs.specs.State.{Id, Content, Empty, Unfilled, Holds, Imported, Binding, Arguments, Given, Made, Activation, Environment, Object, State}
+use Rattle.ecma_runs.specs.State.{Id, Content, Empty, Holds, Imported, Binding, Arguments, Given, Made, Activation, Environment, Object, State}
 use Rattle.ecma_runs.specs.Run.{Stop, Outcome, Done, Thrown, Ended, Run, then_outcome, give, outside, when, changed_at}
 use Rattle.ecma_runs.specs.Host.{own_at, taken, taken_if, import_value, free_value, fixed_value, free_or, read_free, free_or_undefined, read_free_typed}
 use Rattle.ecma_runs.specs.Environment.{activation_in, with_arguments, content_value, value_in, read_variable}
@@ -102,7 +102,6 @@ read_free_typed_drops frees name = free_or_undefined_drops (fixed_value name) (f
 
 content_value_drops : {w : World} (imports : List ImportValue) (c : Content) → Drops w (content_value imports c)
 content_value_drops imports Empty = record { at = λ st. dropped_thrown }
-content_value_drops imports Unfilled = record { at = λ st. dropped_thrown }
 content_value_drops imports (Holds v) = give_drops v
 content_value_drops imports (Imported source name) = taken_if_drops (import_value imports source name)
 

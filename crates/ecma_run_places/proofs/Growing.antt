@@ -4,7 +4,7 @@ use Rattle.ecma_runs.specs.Values.{Value}
 use Rattle.ecma_runs.specs.State.{Content, Binding, Activation, Environment, Entered, Closure, Callable, Property, Entry, Object}
 use Rattle.ecma_runs.specs.Environment.{Reference}
 use Rattle.ecma_runs.specs.Objects.{Base}
-use Rattle.ecma_run_places.specs.Worlds.{Each, no_more, more, Maybe, neither, both, World, Above, Like, undefineds, nulls, truths, numbers, texts, owns, hosts, errors, LikeContent, both_empty, both_unfilled, both_hold, both_imported, LikeBinding, bindings_like, LikeEntered, entered_like, Scopes, LikeClosure, closures_like, LikeCallable, codes_like, bound_like, passed_like, LikeProperty, data_like, fixed_like, accessors_like, open_like, LikeEntry, entries_like, LikeObject, objects_like, LikeActivation, LikeEnvironment}
+use Rattle.ecma_run_places.specs.Worlds.{Each, no_more, more, Maybe, neither, both, World, Above, Like, undefineds, nulls, truths, numbers, texts, owns, hosts, errors, LikeContent, both_empty, both_hold, both_imported, LikeBinding, bindings_like, LikeEntered, entered_like, Scopes, LikeClosure, closures_like, LikeCallable, codes_like, bound_like, passed_like, LikeProperty, data_like, fixed_like, accessors_like, open_like, LikeEntry, entries_like, LikeObject, objects_like, LikeActivation, LikeEnvironment}
 use Rattle.ecma_run_places.specs.Alike.{Likes, MaybeObjects, LikeElements, LikeBase, object_bases, built_in_bases, LikeReference, to_variables, to_frees, to_members, to_supers, to_import_metas, to_meta_members, to_values, Contexts}
 
 pub each_up : {A : Type 0} {R Q : A → A → Type 0} → ((a a' : A) → R a a' → Q a a') → {xs xs' : List A} → Each R xs xs' → Each Q xs xs'
@@ -43,7 +43,6 @@ elements_up u qs = each_up (λ o o' q. maybe_up (λ a a' r. value_up u r) q) qs
 content_up : {w v : World} → Above w v → {c c' : Content} → LikeContent w c c' → LikeContent v c c'
 content_up u both_empty = both_empty
 content_up u (both_hold q) = both_hold (value_up u q)
-content_up u both_unfilled = both_unfilled
 content_up u both_imported = both_imported
 
 binding_up : {w v : World} → Above w v → {b b' : Binding} → LikeBinding w b b' → LikeBinding v b b'

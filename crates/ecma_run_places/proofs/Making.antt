@@ -209,6 +209,7 @@ module _ (n : Node) where
       either_makes (meaning source.0).is_required (record { only = false; named = false })
       (record { value = λ c h. absurd (false≢true h); elements = λ c h. absurd (false≢true h); typed = λ c h. absurd (false≢true h); made = λ x sort home. outside_drops })
       (record { value = λ c h. absurd (false≢true h); elements = λ c h. absurd (false≢true h); typed = λ c h. absurd (false≢true h); made = λ x sort home. outside_drops })
+  step_makes kind.List ps = let h = role_makes kind.List ps in record { value = h.value; elements = h.elements; typed = h.typed; made = h.made }
   step_makes (kind.TsEnumDecl false is_const) (name ∷ members ∷ []) = record { value = λ c h. absurd (false≢true h); elements = λ c h. absurd (false≢true h); typed = λ c h. absurd (false≢true h); made = λ x sort home. outside_drops }
   step_makes kind.TsEnumMember (name ∷ init ∷ []) = record { value = λ c h. absurd (false≢true h); elements = λ c h. absurd (false≢true h); typed = λ c h. absurd (false≢true h); made = λ x sort home. outside_drops }
   step_makes k ps = either_makes (has_no_effect k (meanings ps)) (record { only = only_by k (makings ps); named = named_by k (makings ps) }) (no_effect_makes (record { only = only_by k (makings ps); named = named_by k (makings ps) })) (role_makes k ps)

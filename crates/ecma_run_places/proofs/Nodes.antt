@@ -1,23 +1,25 @@
 -- A node is done alike where its children are, and so are calls.
-use Rattle.std.proofs.Common.{◌≡◌, refl, sym, ap, ◌∙◌, subst, ℕ, zero, suc, List, [], ◌∷◌, map, Option, Some, None, Bool, true, false, cond, codes}
+use Rattle.std.proofs.Common.{◌≡◌, refl, sym, ap, ap₂, ◌∙◌, subst, ℕ, zero, suc, List, [], ◌∷◌, ◌++◌, map, Option, Some, None, Bool, true, false, cond, codes}
 use Rattle.ecma_enums.specs.declared.value.TsEnumRecordValue.{TsEnumRecordValue}
 use Rattle.ecma_kind.specs.declared.kind.Kind.{Kind}
 use Rattle.ecma_kind.specs.declared.kind.Kind.TheVariants as kind
 use Rattle.ecma_kind.specs.declared.operators.AssignOp.TheVariants.{Assign}
 use Rattle.ecma_kind.specs.declared.operators.BinaryOp.TheVariants.{LogicalOr}
+use Rattle.ecma_kind.specs.declared.operators.VarDeclKind.{VarDeclKind}
 use Rattle.ecma_kind.specs.declared.operators.VarDeclKind.TheVariants.{Var, Let, Const}
 use Rattle.ecma_tree.specs.declared.node.Node.{Node, Node-F, roll-Node, ind-Node}
 use Rattle.ecma_runs.specs.declared.shown.ErrorKind.TheVariants as error
 use Rattle.ecma_runs.specs.Values.{Value, Undefined}
 use Rattle.ecma_runs.specs.State.{Id, default_name, Binding, Activation, Entered, Sort, Plain, Method, Arrow, BaseClass, DerivedClass, Closure, State}
 use Rattle.ecma_runs.specs.Run.{TurnsSpent, Run, ◌>>=◌, give, returned_by}
-use Rattle.ecma_runs.specs.Environment.{Reference}
+use Rattle.ecma_runs.specs.Environment.{Reference, is_among}
 use Rattle.ecma_runs.specs.Enums.{as_value}
 use Rattle.ecma_runs.specs.Host.{Provided}
 use Rattle.ecma_runs.specs.Meaning.{Invocation, Functions, Known, inside, Evaluation, Meaning}
 use Rattle.ecma_runs.specs.Declarations.{lexicals_of, vars_of, locals_of, imported_of, imported_from, imported_as, all_lexicals, all_vars, all_imported, has_no_effect}
 use Rattle.ecma_runs.specs.Classes.{body_of}
-use Rattle.ecma_runs.specs.Evaluation.{in_record, as_it_is, called_with, called_block, completed_of, role_by, ending_chain, no_effect, free_meaning, text_key, constant_meaning, set_export, variable_reference, write_of, variable_meaning, value_meaning, set_by, known_member, is_known_text, member_value, set_member_by, member_by, member_meaning, leaves_out, members_meaning, called_function, enum_part_by, enum_meaning, meaning_by, meaning, entered, or_object, this_of, or_this, construct_base, invoked, class_fields, fields_by, invoke_closure, fields_of_closure, no_fields, fields_with, functions_with, apply_at, calls, invoke}
+use Rattle.ecma_runs.specs.Statements.{completion_of, module_body_of}
+use Rattle.ecma_runs.specs.Evaluation.{in_record, as_it_is, called_with, called_block, completed_of, role_by, ending_chain, no_effect, free_meaning, text_key, constant_meaning, set_export, variable_reference, write_of, variable_meaning, value_meaning, set_by, known_member, is_known_text, member_value, set_member_by, member_by, member_meaning, leaves_out, members_meaning, enum_part_by, enum_meaning, variable_declared, exported_if, variables_for, with_variables, list_meaning, meaning_by, meaning, entered, or_object, this_of, or_this, construct_base, invoked, class_fields, fields_by, invoke_closure, fields_of_closure, no_fields, fields_with, functions_with, apply_at, calls, invoke}
 use Rattle.ecma_runs.proofs.Layer.{meaning-roll}
 use Rattle.ecma_run_places.specs.Worlds.{Each, no_more, Maybe, neither, both, Paired, World, Above, Same, is, Objects, Like, undefineds, owns, hosts, errors, LikeBinding, LikeEntered, entered_like, Scopes, LikeClosure, closures_like, objects_like, LikeActivation, arguments_of_activation, States}
 use Rattle.ecma_run_places.specs.Alike.{Alike, Outcomes, Likes, MaybeObjects, LikeReference, to_frees, LikeInvocation, calls_like, constructions_like, FunctionsAlike, Contexts, first, second, MeansAlike}
@@ -25,13 +27,13 @@ use Rattle.ecma_run_places.proofs.Growing.{above, itself, value_up, values_up, r
 use Rattle.ecma_run_places.proofs.Combinators.{Keeps, keeps_alike, here_bind, here_bind_same, bind, bind_same, throw_kept, outside_kept, give_alike, throw_alike, stop_alike, outside_alike, when_alike, given_same, given_or_kept, returned_alike}
 use Rattle.ecma_run_places.proofs.Host.{each_append, spend_kept}
 use Rattle.ecma_run_places.proofs.Building.{LikeNew, new_unbound, new_given}
-use Rattle.ecma_run_places.proofs.Records.{empties_like, undefineds_like, unfilleds_like, imports_like, fill_kept, resolved_kept, new_environment_alike, enter, inward, activation_at_kept}
+use Rattle.ecma_run_places.proofs.Records.{empties_like, undefineds_like, imports_like, resolved_kept, new_environment_alike, enter, inward, activation_at_kept}
 use Rattle.ecma_run_places.proofs.Objects.{new_object_alike, closure_at_like}
 use Rattle.ecma_run_places.proofs.Functions.{read_alike, write_alike, pass_function_alike, prototype_for_kept}
 use Rattle.ecma_run_places.proofs.EnumReads.{as_value_like}
 use Rattle.ecma_run_places.proofs.Expressions.{Part, meanings, value_alike, reference_alike, written_alike, chain_alike, test_alike, initial_alike, link_alike, arguments_alike, elements_alike, texts_alike, key_alike}
 use Rattle.ecma_run_places.proofs.Patterns.{assigned_alike, targets_alike, matched_alike, bound_alike, parameters_alike}
-use Rattle.ecma_run_places.proofs.Statements.{completion_alike, members_alike, last_alike, varied_alike, hoisted_alike, caught_alike, effect_alike, switched_alike, selected_alike}
+use Rattle.ecma_run_places.proofs.Statements.{completion_alike, members_alike, module_body_alike, last_alike, varied_alike, hoisted_alike, caught_alike, effect_alike, switched_alike, selected_alike}
 use Rattle.ecma_run_places.proofs.Classes.{made_alike, default_made_alike, items_alike, body_alike, code_alike, enter_fields, class_made_alike, defined_alike, fields_alike, statics_alike}
 
 -- ---- variables that are declared hold nothing of a state
@@ -71,7 +73,6 @@ lexicals_like (kind.ImportDecl false) (specifiers ∷ source ∷ attributes ∷ 
 lexicals_like (kind.FnDecl false) (name ∷ function ∷ []) = empties_like false name.0.names
 lexicals_like (kind.ClassDecl false) (name ∷ class ∷ []) = empties_like false name.0.names
 lexicals_like kind.SwitchCase (test ∷ statements ∷ []) = statements.1.lexicals
-lexicals_like (kind.TsEnumDecl false is_const) (name ∷ members ∷ []) = unfilleds_like name.0.names
 lexicals_like kind.ExportDecl (declaration ∷ []) = declaration.1.lexicals
 lexicals_like kind.ExportDefaultExpr (e ∷ []) = empties_like false (default_name ∷ [])
 lexicals_like kind.ExportDefaultDecl (declaration ∷ []) = empties_like false declaration.0.default_names
@@ -97,7 +98,8 @@ vars_like _ ps = no_more
 
 locals_like : {w : World} (k : Kind) (ps : List Part) → Each (LikeBinding w) (locals_of k (meanings ps)) (locals_of k (meanings ps))
 locals_like kind.BlockStmt (statements ∷ []) = each_append statements.1.vars statements.1.lexicals
-locals_like (kind.Module shebang) (body ∷ []) = each_append body.1.vars body.1.lexicals
+locals_like (kind.Module shebang) (body ∷ []) = body.1.locals
+locals_like kind.List ps = each_append (all_vars_like ps) (all_lexicals_like ps)
 locals_like _ ps = no_more
 
 -- ---- records of code
@@ -162,6 +164,7 @@ role_alike node k ps = record {
   member = λ c leaves_out ids. members_alike c k ps leaves_out ids;
   varied = λ c. varied_alike c k ps;
   hoisted = λ c. hoisted_alike c k ps;
+  module_body = λ c. module_body_alike c k ps;
   last = λ c. last_alike c k ps;
   effect = λ c. effect_alike node c k ps;
   test = λ c. test_alike node c k ps;
@@ -203,6 +206,7 @@ ending_alike m h = record {
   member = h.member;
   varied = h.varied;
   hoisted = h.hoisted;
+  module_body = h.module_body;
   last = h.last;
   effect = h.effect;
   test = h.test;
@@ -249,6 +253,7 @@ free_alike node name = let h = absent_alike node in record {
   member = h.member;
   varied = h.varied;
   hoisted = h.hoisted;
+  module_body = h.module_body;
   last = h.last;
   effect = h.effect;
   test = h.test;
@@ -290,6 +295,7 @@ text_key_alike node name = let h = absent_alike node in record {
   member = h.member;
   varied = h.varied;
   hoisted = h.hoisted;
+  module_body = h.module_body;
   last = h.last;
   effect = h.effect;
   test = h.test;
@@ -352,6 +358,7 @@ others_alike m h value reference assigned completion member = record {
   member = λ c leaves_out ids. member _ c leaves_out ids;
   varied = h.varied;
   hoisted = h.hoisted;
+  module_body = h.module_body;
   last = h.last;
   effect = h.effect;
   test = h.test;
@@ -365,6 +372,135 @@ others_alike m h value reference assigned completion member = record {
   fields = h.fields;
   statics = h.statics;
   code = h.code;
+  body = h.body;
+  lexicals = h.lexicals;
+  vars = h.vars;
+  locals = h.locals;
+  imported = h.imported;
+}
+
+-- ---- lists, with the variables of enums
+
+module _ (node : Node) (word : VarDeclKind) where
+  exported_alike : (e : Bool) (p : Part) → MeansAlike (exported_if node e p.0)
+  exported_alike true p = role_alike node kind.ExportDecl (p ∷ [])
+  exported_alike false p = p.1
+
+  abbrev variable_part : Bool → Id → Part
+  variable_part e id =
+      let absent : Part = role node kind.Absent [] in
+      let binding : Part = role node kind.BindingIdent (role node (kind.Ident id.sym id.ctxt false) [] ∷ absent ∷ []) in
+      let variable : Part = role node (kind.VarDecl word false) (role node kind.List (role node (kind.VarDeclarator false) (binding ∷ absent ∷ []) ∷ []) ∷ []) in
+      (exported_if node e variable.0, exported_alike e variable)
+
+  abbrev variable_parts : Bool → List Id → List Id → List Part
+  variable_parts e there [] = []
+  variable_parts e there (id ∷ ids) = cond (is_among id there) (variable_parts e there ids) (variable_part e id ∷ variable_parts e there ids)
+
+  chosen_parts : (b : Bool) (p : Part) (ps : List Part) → meanings (cond b ps (p ∷ ps)) ≡ cond b (meanings ps) (p.0 ∷ meanings ps)
+  chosen_parts true p ps = refl
+  chosen_parts false p ps = refl
+
+  parts_variables : (e : Bool) (there ids : List Id) → meanings (variable_parts e there ids) ≡ variables_for node word e there ids
+  parts_variables e there [] = refl
+  parts_variables e there (id ∷ ids) =
+      chosen_parts (is_among id there) (variable_part e id) (variable_parts e there ids)
+      ∙ ap (λ l. cond (is_among id there) l (exported_if node e (variable_declared node word id) ∷ l)) (parts_variables e there ids)
+
+  abbrev with_parts : List Id → List Part → List Part
+  with_parts there [] = []
+  with_parts there (p ∷ ps) = variable_parts p.0.is_export there p.0.part_names ++ (p ∷ with_parts (there ++ p.0.merged_names) ps)
+
+  parts_append : (ps qs : List Part) → meanings (ps ++ qs) ≡ meanings ps ++ meanings qs
+  parts_append [] qs = refl
+  parts_append (p ∷ ps) qs = ap (λ l. p.0 ∷ l) (parts_append ps qs)
+
+  parts_with : (there : List Id) (ps : List Part) → meanings (with_parts there ps) ≡ with_variables node word there (meanings ps)
+  parts_with there [] = refl
+  parts_with there (p ∷ ps) =
+      parts_append (variable_parts p.0.is_export there p.0.part_names) (p ∷ with_parts (there ++ p.0.merged_names) ps)
+      ∙ ap₂ (λ vars rest. vars ++ (p.0 ∷ rest)) (parts_variables p.0.is_export there p.0.part_names) (parts_with (there ++ p.0.merged_names) ps)
+
+list_alike : (node : Node) (ps : List Part) → MeansAlike (list_meaning node (meanings ps))
+list_alike node ps = let h = role_alike node kind.List ps in record {
+  value = h.value;
+  reference = h.reference;
+  written = h.written;
+  assigned = h.assigned;
+  initial = h.initial;
+  arguments = h.arguments;
+  elements = h.elements;
+  texts = h.texts;
+  key = h.key;
+  chain = h.chain;
+  link = h.link;
+  bound = h.bound;
+  matched = h.matched;
+  targets = h.targets;
+  parameters = h.parameters;
+  completion = λ {w} c. subst (λ ms. Alike w Same (completion_of kind.List ms (first c)) (completion_of kind.List ms (second c))) (parts_with node Let [] ps) (completion_alike c kind.List (with_parts node Let [] ps));
+  member = h.member;
+  varied = h.varied;
+  hoisted = h.hoisted;
+  module_body = λ {w} c. subst (λ ms. Alike w Same (module_body_of kind.List ms (first c)) (module_body_of kind.List ms (second c))) (parts_with node Var [] ps) (module_body_alike c kind.List (with_parts node Var [] ps));
+  last = h.last;
+  effect = h.effect;
+  test = h.test;
+  caught = h.caught;
+  switched = h.switched;
+  selected = h.selected;
+  made = h.made;
+  default_made = h.default_made;
+  class_made = h.class_made;
+  defined = h.defined;
+  fields = h.fields;
+  statics = h.statics;
+  code = h.code;
+  body = h.body;
+  lexicals = λ {w}. subst (λ ms. Each (LikeBinding w) (all_lexicals ms) (all_lexicals ms)) (parts_with node Let [] ps) (all_lexicals_like (with_parts node Let [] ps));
+  vars = h.vars;
+  locals = λ {w}. subst (λ ms. Each (LikeBinding w) (locals_of kind.List ms) (locals_of kind.List ms)) (parts_with node Var [] ps) (locals_like kind.List (with_parts node Var [] ps));
+  imported = h.imported;
+}
+
+-- a meaning with another statement, and with the code of a function
+with_code : (m : Meaning) → MeansAlike m → (f : Meaning) {e : Evaluation (Unit {0})} → ((w : World) (c : Contexts w) → Alike w Same (e (first c)) (e (second c)))
+    → ((w : World) (c : Contexts w) {vs vs' : List Value} → Likes w vs vs' → Alike w Same (f.code vs (first c)) (f.code vs' (second c)))
+    → MeansAlike (record m { completion = e; parameter_names = f.parameter_names; code = f.code })
+with_code m h f does codes = record {
+  value = h.value;
+  reference = h.reference;
+  written = h.written;
+  assigned = h.assigned;
+  initial = h.initial;
+  arguments = h.arguments;
+  elements = h.elements;
+  texts = h.texts;
+  key = h.key;
+  chain = h.chain;
+  link = h.link;
+  bound = h.bound;
+  matched = h.matched;
+  targets = h.targets;
+  parameters = h.parameters;
+  completion = λ c. does _ c;
+  member = h.member;
+  varied = h.varied;
+  hoisted = h.hoisted;
+  module_body = h.module_body;
+  last = h.last;
+  effect = h.effect;
+  test = h.test;
+  caught = h.caught;
+  switched = h.switched;
+  selected = h.selected;
+  made = h.made;
+  default_made = h.default_made;
+  class_made = h.class_made;
+  defined = h.defined;
+  fields = h.fields;
+  statics = h.statics;
+  code = λ c vs. codes _ c vs;
   body = h.body;
   lexicals = h.lexicals;
   vars = h.vars;
@@ -393,8 +529,8 @@ module _ (node : Node) where
   valued_alike : (value : Evaluation Value) → ((w : World) (c : Contexts w) → Alike w Like (value (first c)) (value (second c))) → MeansAlike (value_meaning node value)
   valued_alike value gives = let h = absent_alike node in others_alike (role_by node kind.Absent []) h gives (λ w c. h.reference c) (λ w c get get' gets. h.assigned c gets) (λ w c. h.completion c) (λ w c. h.member c)
 
-  abbrev variable_part : List Id → Part
-  variable_part ids = (variable_meaning node ids, variable_alike ids)
+  abbrev name_part : List Id → Part
+  name_part ids = (variable_meaning node ids, variable_alike ids)
 
   abbrev text_part : List ℕ → Part
   text_part text = role node (kind.Str text None) []
@@ -417,7 +553,7 @@ module _ (node : Node) where
       → Alike w Same (set_member_by node ids text known init.0 (first c)) (set_member_by node ids text known init.0 (second c))
   set_member_alike ids text known init c =
       let value : Part = (member_value node init.0 known, member_value_alike init known) in
-      let set : Part = (set_by (is_known_text known) node (variable_meaning node ids) text value.0, set_alike (is_known_text known) (variable_part ids) text value) in
+      let set : Part = (set_by (is_known_text known) node (variable_meaning node ids) text value.0, set_alike (is_known_text known) (name_part ids) text value) in
       (role_alike node kind.ExprStmt (set ∷ [])).completion c
 
   member_by_alike : (init : Part) (o : Option (List ℕ)) {w : World} (c : Contexts w) (leaves_out : Bool) (ids : List Id)
@@ -448,24 +584,21 @@ module _ (node : Node) where
   abbrev object_part : List Id → Part
   object_part ids =
       role node (kind.BinExpr LogicalOr)
-      (variable_part ids ∷ role node (kind.AssignExpr Assign) (variable_part ids ∷ role node kind.ObjectLit (role node kind.List [] ∷ []) ∷ []) ∷ [])
+      (name_part ids ∷ role node (kind.AssignExpr Assign) (name_part ids ∷ role node kind.ObjectLit (role node kind.List [] ∷ []) ∷ []) ∷ [])
 
-  called_function_alike : (function arguments : Part) {w : World} (c : Contexts w) → Alike w Same (called_function node function.0 arguments.0 (first c)) (called_function node function.0 arguments.0 (second c))
-  called_function_alike function arguments c =
-      bind (enter no_more) (λ v u _ _ e. bind (pass_function_alike node (inward (later u c) e)) (λ v' u' _ _ f. bind (arguments.1.arguments (later (above u u') c)) (λ v'' u'' _ _ vs. here_bind_same spend_kept (λ _.
-      bind (in_record_alike (later (above u' u'') (inward (later u c) e)) (empties_like false function.0.parameter_names) (both (called_like undefineds (u''.objects _ _ f) neither _ _)) (new_given vs)
-      (function.0.code _) (function.0.code _) (λ z y d. function.1.code d (values_up y vs)) (as_it_is_alike (later (above u' u'') (inward (later u c) e)))) (λ _ _ _ _ _. give_alike is)))))
+  abbrev call_part : Part → Part → Part
+  call_part function object =
+      role node kind.ExprStmt (role node kind.CallExpr (role node kind.FnExpr (role node kind.Absent [] ∷ function ∷ []) ∷ role node kind.List (object ∷ []) ∷ role node kind.Absent [] ∷ []) ∷ [])
 
   part_alike : (is_const : Bool) (name : Part) (ids : List Id) (texts : List (List ℕ)) (members : Part) {w : World} (c : Contexts w)
       → Alike w Same (enum_part_by node is_const name.0 ids texts members.0 (first c)) (enum_part_by node is_const name.0 ids texts members.0 (second c))
-  part_alike is_const name ids texts members c =
-      here_bind_same (fill_kept c.scopes ids) (λ _. when_alike refl (give_alike is) (called_function_alike (function_part is_const name ids members) (role node kind.List (object_part ids ∷ [])) c))
+  part_alike is_const name ids texts members c = when_alike refl (give_alike is) ((call_part (function_part is_const name ids members) (object_part ids)).1.completion c)
 
   enum_alike : (is_const : Bool) (name members : Part) → MeansAlike (enum_meaning node is_const name.0 members.0)
   enum_alike is_const name members =
       let h = role_alike node (kind.TsEnumDecl false is_const) (name ∷ members ∷ []) in
-      others_alike (role_by node (kind.TsEnumDecl false is_const) (name.0 ∷ members.0 ∷ [])) h (λ w c. h.value c) (λ w c. h.reference c) (λ w c get get' gets. h.assigned c gets)
-      (λ w c. part_alike is_const name name.0.names members.0.member_texts members c) (λ w c. h.member c)
+      let f = function_part is_const name name.0.names members in
+      with_code (role_by node (kind.TsEnumDecl false is_const) (name.0 ∷ members.0 ∷ [])) h f.0 (λ w c. part_alike is_const name name.0.names members.0.member_texts members c) (λ w c vs. f.1.code c vs)
 
 kind_alike : (node : Node) (k : Kind) (ps : List Part) → MeansAlike (cond (has_no_effect k (meanings ps)) (no_effect node) (role_by node k (meanings ps)))
 kind_alike node k ps = either_alike (has_no_effect k (meanings ps)) (role_alike node (kind.TsTypeAliasDecl false) []) (role_alike node k ps)
@@ -486,6 +619,7 @@ step_alike node (kind.TsImportEqualsDecl false false) (name ∷ source ∷ []) =
 step_alike node (kind.TsImportEqualsDecl true false) (name ∷ source ∷ []) =
     either_alike source.0.is_required (constant_alike node name (set_export node name.0 source.0, set_export_alike node name source))
     (role_alike node kind.ExportDecl ((constant_meaning node name.0 source.0, constant_alike node name source) ∷ []))
+step_alike node kind.List ps = list_alike node ps
 step_alike node (kind.TsEnumDecl false is_const) (name ∷ members ∷ []) = enum_alike node is_const name members
 step_alike node kind.TsEnumMember (name ∷ init ∷ []) = member_alike node name init
 step_alike node k ps = kind_alike node k ps

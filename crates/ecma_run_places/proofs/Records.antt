@@ -6,8 +6,8 @@ use Rattle.ecma_runs.specs.Values.{Value}
 use Rattle.ecma_runs.specs.State.{Id, same_id, Content, Binding, Activation, Environment, Entered, State}
 use Rattle.ecma_runs.specs.Run.{Run, Done, Ended, Outside, Outcome, then_outcome}
 use Rattle.ecma_runs.specs.Host.{import_value}
-use Rattle.ecma_runs.specs.Environment.{ids_of, new_environment, binding_of, bindings_in, variable, set_in, with_value, set_variable, copy_environment, empty, undefined, unfilled, fill_content, fill_in, fill_variable, fill_one, fill, import_of, resolved, content_value, value_in, read_variable, unless_empty, write_in, write_variable, set_all, initialize_one, initialize, activation_in, activation_at, with_activation, activation_or, activation, this, with_this, bind_this_in, bind_this}
-use Rattle.ecma_run_places.specs.Worlds.{Each, no_more, more, Maybe, neither, both, Paired, newest, World, Same, is, Like, undefineds, errors, LikeContent, both_empty, both_unfilled, both_hold, both_imported, LikeBinding, bindings_like, LikeEntered, entered_like, Scopes, LikeActivation, LikeEnvironment, arguments_of_activation, States}
+use Rattle.ecma_runs.specs.Environment.{ids_of, new_environment, binding_of, bindings_in, variable, set_in, with_value, set_variable, copy_environment, empty, undefined, import_of, resolved, content_value, value_in, read_variable, unless_empty, write_in, write_variable, set_all, initialize_one, initialize, activation_in, activation_at, with_activation, activation_or, activation, this, with_this, bind_this_in, bind_this}
+use Rattle.ecma_run_places.specs.Worlds.{Each, no_more, more, Maybe, neither, both, Paired, newest, World, Same, is, Like, undefineds, errors, LikeContent, both_empty, both_hold, both_imported, LikeBinding, bindings_like, LikeEntered, entered_like, Scopes, LikeActivation, LikeEnvironment, arguments_of_activation, States}
 use Rattle.ecma_run_places.specs.Alike.{Alike, Outcomes, both_done, LikeReference, to_variables, to_frees, Contexts}
 use Rattle.ecma_run_places.proofs.Combinators.{Stays, done_here, ended_here, thrown_here, Keeps, kept_bind, kept_bind_same, give_kept, throw_kept, outside_kept, when_kept, given_or_kept}
 use Rattle.ecma_run_places.proofs.Host.{taken_if_kept}
@@ -49,9 +49,6 @@ undefineds_like ids = map_like undefined (λ id. bindings_like (both_hold undefi
 pub imports_like : {w : World} (source name : List ℕ) (ids : List Id) → Each (LikeBinding w) (map (import_of source name) ids) (map (import_of source name) ids)
 imports_like source name ids = map_like (import_of source name) (λ id. bindings_like both_imported) ids
 
-pub unfilleds_like : {w : World} (ids : List Id) → Each (LikeBinding w) (map unfilled ids) (map unfilled ids)
-unfilleds_like ids = map_like unfilled (λ id. bindings_like both_unfilled) ids
-
 -- ---- records
 
 -- what is known of a record is known of both
@@ -69,7 +66,6 @@ activation_like {w} st p = of_environments (λ o o'. Maybe (LikeActivation w) (a
 
 content_value_kept : {w : World} (imports : List ImportValue) {c c' : Content} → LikeContent w c c' → Keeps w Like (content_value imports c) (content_value imports c')
 content_value_kept imports both_empty = throw_kept (errors error.Reference)
-content_value_kept imports both_unfilled = throw_kept (errors error.Reference)
 content_value_kept imports (both_hold q) = give_kept q
 content_value_kept imports (both_imported {source = source} {name = name}) = taken_if_kept (import_value imports source name)
 
@@ -92,7 +88,6 @@ set_variable_kept p id q = record { at = λ st. set_variable_at st p id q }
 
 unless_empty_kept : {w : World} {c c' : Content} → LikeContent w c c' → {m m' : Run (Unit {0})} → Keeps w Same m m' → Keeps w Same (unless_empty c m) (unless_empty c' m')
 unless_empty_kept both_empty h = throw_kept (errors error.Reference)
-unless_empty_kept both_unfilled h = throw_kept (errors error.Reference)
 unless_empty_kept (both_hold q) h = h
 unless_empty_kept both_imported h = h
 
@@ -115,29 +110,6 @@ initialize_one_kept (more (entered_like p) es) id q = when_kept refl (set_variab
 pub initialize_kept : {w : World} {scope scope' : List Entered} → Scopes w scope scope' → (ids : List Id) {v v' : Value} → Like w v v' → Keeps w Same (initialize scope ids v) (initialize scope' ids v')
 initialize_kept es [] q = give_kept is
 initialize_kept es (id ∷ ids) q = kept_bind_same (initialize_one_kept es id q) (λ _. initialize_kept es ids q)
-
--- what is unfilled becomes undefined
-
-fill_content_kept : {w : World} {a b : ℕ} → Paired w.environments a b → (id : Id) {c c' : Content} → LikeContent w c c' → Keeps w Same (fill_content a id c) (fill_content b id c')
-fill_content_kept p id both_unfilled = set_variable_kept p id undefineds
-fill_content_kept p id both_empty = give_kept is
-fill_content_kept p id (both_hold q) = give_kept is
-fill_content_kept p id both_imported = give_kept is
-
-fill_in_kept : {w : World} {a b : ℕ} → Paired w.environments a b → (id : Id) {o o' : Option Binding} → Maybe (LikeBinding w) o o' → Keeps w Same (fill_in a id o) (fill_in b id o')
-fill_in_kept p id neither = give_kept is
-fill_in_kept p id (both (bindings_like c)) = fill_content_kept p id c
-
-fill_variable_kept : {w : World} {a b : ℕ} → Paired w.environments a b → (id : Id) → Keeps w Same (fill_variable a id) (fill_variable b id)
-fill_variable_kept p id = record { at = λ st. (fill_in_kept p id (variable_like st p id)).at st }
-
-fill_one_kept : {w : World} {scope scope' : List Entered} → Scopes w scope scope' → (id : Id) → Keeps w Same (fill_one scope id) (fill_one scope' id)
-fill_one_kept no_more id = give_kept is
-fill_one_kept (more (entered_like p) es) id = when_kept refl (fill_variable_kept p id) (fill_one_kept es id)
-
-pub fill_kept : {w : World} {scope scope' : List Entered} → Scopes w scope scope' → (ids : List Id) → Keeps w Same (fill scope ids) (fill scope' ids)
-fill_kept es [] = give_kept is
-fill_kept es (id ∷ ids) = kept_bind_same (fill_one_kept es id) (λ _. fill_kept es ids)
 
 -- ---- names
 

@@ -7,7 +7,7 @@ use Rattle.ecma_tree.specs.declared.node.Node.{Node}
 use Rattle.ecma_runs.specs.Values.{Value}
 use Rattle.ecma_runs.specs.State.{Id, default_name, Entered, Plain, State}
 use Rattle.ecma_runs.specs.Run.{TurnsSpent, Run, give}
-use Rattle.ecma_runs.specs.Statements.{rounds, while, do_while, for_rounds, for_loop, block, all_completions, completion_of, all_last, last_of, effect_of, all_members, member_of, all_varied, varied_of, all_hoisted, hoisted_of, caught_of, all_cases, all_switched, switched_of, is_case_of, selected_of}
+use Rattle.ecma_runs.specs.Statements.{rounds, while, do_while, for_rounds, for_loop, block, all_completions, completion_of, all_last, module_body_of, last_of, effect_of, all_members, member_of, all_varied, varied_of, all_hoisted, hoisted_of, caught_of, all_cases, all_switched, switched_of, is_case_of, selected_of}
 use Rattle.ecma_run_places.specs.Worlds.{World, Above, Maybe, neither, both, Same, is, Like, owns, LikeEntered, States}
 use Rattle.ecma_run_places.specs.Alike.{Alike, Outcomes, to_frees, to_members, Contexts, first, second}
 use Rattle.ecma_run_places.proofs.Growing.{above, itself, maybe_up, value_up, entered_up, scopes_up, later}
@@ -90,7 +90,7 @@ all_last_alike c (p ∷ ps) = bind_same (p.1.last c) (λ v u _. all_last_alike (
 pub completion_alike : {w : World} (c : Contexts w) (k : Kind) (ps : List Part) → Alike w Same (completion_of k (meanings ps) (first c)) (completion_of k (meanings ps) (second c))
 completion_alike c kind.Absent ps = give_alike is
 completion_alike c kind.List ps = all_completions_alike c ps
-completion_alike c (kind.Module shebang) (body ∷ []) = bind_same (body.1.completion c) (λ v u _. body.1.last (later u c))
+completion_alike c (kind.Module shebang) (body ∷ []) = bind_same (body.1.module_body c) (λ v u _. body.1.last (later u c))
 completion_alike c kind.ExprStmt (e ∷ []) = bind (e.1.value c) (λ v u _ _ _. give_alike is)
 completion_alike c (kind.VarDecl Var false) (declarators ∷ []) = declarators.1.varied c
 completion_alike c (kind.VarDecl Let false) (declarators ∷ []) = declarators.1.completion c
@@ -124,6 +124,10 @@ completion_alike c (kind.ExportAll false) ps = give_alike is
 completion_alike c kind.TsExportAssignment ps = give_alike is
 completion_alike c (kind.TsTypeAliasDecl declare) ps = give_alike is
 completion_alike c _ ps = outside_alike
+
+pub module_body_alike : {w : World} (c : Contexts w) (k : Kind) (ps : List Part) → Alike w Same (module_body_of k (meanings ps) (first c)) (module_body_of k (meanings ps) (second c))
+module_body_alike c kind.List ps = all_completions_alike c ps
+module_body_alike c _ ps = outside_alike
 
 pub last_alike : {w : World} (c : Contexts w) (k : Kind) (ps : List Part) → Alike w Same (last_of k (meanings ps) (first c)) (last_of k (meanings ps) (second c))
 last_alike c kind.List ps = all_last_alike c ps

@@ -102,6 +102,7 @@ pub record MeansAlike (m : Meaning) : Type 0 where
   pub member : {w : World} (c : Contexts w) (leaves_out : Bool) (ids : List Id) → Alike w Same (m.member leaves_out ids (first c)) (m.member leaves_out ids (second c))
   pub varied : {w : World} (c : Contexts w) → Alike w Same (m.varied (first c)) (m.varied (second c))
   pub hoisted : {w : World} (c : Contexts w) → Alike w Same (m.hoisted (first c)) (m.hoisted (second c))
+  pub module_body : {w : World} (c : Contexts w) → Alike w Same (m.module_body (first c)) (m.module_body (second c))
   pub last : {w : World} (c : Contexts w) → Alike w Same (m.last (first c)) (m.last (second c))
   pub effect : {w : World} (c : Contexts w) → Alike w Same (m.effect (first c)) (m.effect (second c))
   pub test : {w : World} (c : Contexts w) → Alike w Like (m.test (first c)) (m.test (second c))

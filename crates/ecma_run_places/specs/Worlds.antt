@@ -4,7 +4,7 @@ use Rattle.ecma_number.specs.declared.js_number.JsNumber.{JsNumber}
 use Rattle.ecma_tree.specs.declared.node.Node.{Node}
 use Rattle.ecma_runs.specs.declared.shown.ErrorKind.{ErrorKind}
 use Rattle.ecma_runs.specs.Values.{Value, Undefined, Null, Truth, Number, Text, Own, Host, Error}
-use Rattle.ecma_runs.specs.State.{Id, Content, Empty, Unfilled, Holds, Imported, Binding, Arguments, Unbound, Forbidden, Given, Made, Activation, Environment, Entered, Sort, Closure, Callable, Code, Bound, Passed, Property, Data, Fixed, Accessor, Open, Entry, Extent, ArgumentList, Object, State}
+use Rattle.ecma_runs.specs.State.{Id, Content, Empty, Holds, Imported, Binding, Arguments, Unbound, Forbidden, Given, Made, Activation, Environment, Entered, Sort, Closure, Callable, Code, Bound, Passed, Property, Data, Fixed, Accessor, Open, Entry, Extent, ArgumentList, Object, State}
 use Rattle.ecma_runs.specs.Environment.{activation_in}
 use Rattle.ecma_runs.specs.Objects.{element_entries}
 
@@ -81,7 +81,6 @@ pub data Like (w : World) : Value → Value → Type 0 where
 
 pub data LikeContent (w : World) : Content → Content → Type 0 where
   both_empty : LikeContent w Empty Empty
-  both_unfilled : LikeContent w Unfilled Unfilled
   both_hold : {v v' : Value} → Like w v v' → LikeContent w (Holds v) (Holds v')
   both_imported : {source name : List ℕ} → LikeContent w (Imported source name) (Imported source name)
 

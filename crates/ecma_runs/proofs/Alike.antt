@@ -11,24 +11,24 @@ use Rattle.ecma_runs.specs.Meaning.{Known}
 use Rattle.ecma_runs.specs.Sought.{Sought, nothing_sought, Seeker, sought_in}
 use Rattle.ecma_runs.specs.Evaluation.{meaning}
 use Rattle.ecma_runs.proofs.Scopes.{AreThere, Stands, Opens}
-use Rattle.ecma_runs.proofs.Names.{Naming, Unless, unless_is, unless_map, changed_environment, kept_by}
+use Rattle.ecma_runs.proofs.Names.{Naming, Unless, unless_is, unless_map, changed_ids, changed_environment, kept_by}
 
--- each name stays, host values and functions may be used, and what is passed over is so in the other run too
-pub record IsExact (names : Naming) (uses : Bool) (passed : Option (Node → Node)) : Type 0 where
+-- each name stays, and host values and functions may be used
+pub record IsExact (names : Naming) (uses : Bool) : Type 0 where
   pub plain : names.plain ≡ true
   pub same : (id : Id) → names.to id ≡ id
   pub all : (id : Id) → names.kept id ≡ true
   pub used : uses ≡ true
-  pub nothing_passed : passed ≡ None
 
--- what is known of the enums of a module, where functions keep other nodes, of which this is true: enums may stand in them, and then names stay; else nothing is known
-pub record EnumsStand (enums : Enums) (names : Naming) (uses : Bool) (passed : Option (Node → Node)) (node : Node → Node) (fine : Node → Type 0) : Type 0 where
+-- what is known of the enums of a module, and of those of the other, where functions keep other nodes, of which this is true: enums may stand in them, and then names stay;
+-- else nothing is known of either
+pub record EnumsStand (enums there : Enums) (names : Naming) (uses : Bool) (node : Node → Node) (fine : Node → Type 0) : Type 0 where
   pub has : Bool
   pub may_change : Bool
-  pub lacking : has ≡ false → enums ≡ no_enums may_change
-  pub exact : has ≡ true → IsExact names uses passed
-  -- what is known of a read is known of its image
-  pub reads : (n : Node) → fine n → reading enums (node n) ≡ reading enums n
+  pub lacking : has ≡ false → (enums ≡ no_enums may_change) × (there ≡ no_enums may_change)
+  pub exact : has ≡ true → IsExact names uses
+  -- what is known of a read is known there of its image
+  pub reads : (n : Node) → fine n → reading there (node n) ≡ reading enums n
 
 -- how one run differs from another
 pub record Change : Type 1 where
@@ -60,7 +60,10 @@ pub record Change : Type 1 where
   pub uses : Bool
   pub said : List Event → Type 0
   pub adds : uses ≡ true → (events : List Event) (event : Event) → said events → said (events ++ event ∷ [])
-  pub enums : EnumsStand known.enums names uses passed node fine
+  -- what is known of the module in the other run, which declares the same, but for the names
+  pub there : Known
+  pub declares : (id : Id) → names.kept id ≡ true → is_among (names.to id) there.declared ≡ is_among (names.to id) (changed_ids names known.declared)
+  pub enums : EnumsStand known.enums there.enums names uses node fine
 
 -- without turns, a run stops where it spends one
 pub spends_none : (more : ℕ) (b : Bool) → (more ≡ 0) ⊎ (b ≡ true) → (s : State) → Unless b (spend_of (0 + more) s ≡ Ended TurnsSpent s)
@@ -73,6 +76,10 @@ passed_to names node None closure = Passed (kept_by names node closure)
 passed_to names node (Some function) closure = Code (kept_by names function closure)
 
 module _ (c : Change) where
+  -- where enums may stand, the same is known of them
+  abbrev pub SameFacts : Type 0
+  SameFacts = c.enums.has ≡ true → c.there.enums ≡ c.known.enums
+
   abbrev pub changed_callable : Callable → Callable
   changed_callable (Code closure) = Code (kept_by c.names c.node closure)
   changed_callable (Bound target this given) = Bound target this given

@@ -79,6 +79,7 @@ module _ (c : Change) {a : List Entered} (w : World (at c a)) where
       let z : Standing c (e ∷ w.scope) statements.0.seeks.sought = opened c.names (unless_map c.names.plain (λ p. p.0) opens) s e is in
       bind_alike (beside d e) (statements.2.hoisted (within d w e) z) (λ _. statements.2.completion (within d w e) z)))
   body_alike n fine (kind.Module shebang) (body ∷ []) kept o names outer opens s = bind_alike d {A = Value} (outside_alike d) (λ v. return_alike d v)
+  body_alike n fine kind.List ps kept o names outer opens s = bind_alike d {A = Value} (outside_alike d) (λ v. return_alike d v)
   body_alike n fine k ps kept o names outer opens s =
       bind_alike d (value_alike c w n fine k ps kept ((body_stands c.names (unless_map c.names.plain (λ p. p.0) opens) s, unless_map c.names.plain (λ p. p.0) o), unless_map c.names.plain (λ p. p.1) o)) (λ v. return_alike d v)
 
@@ -222,8 +223,8 @@ module _ (c : Change) {a : List Entered} (w : World (at c a)) where
       → Alike (at c a) (defined_of n k (firsts c ps) class object (first (at c a) w)) (defined_of (c.node n) (renamed_kind c k) (seconds c ps) class object (second (at c a) w))
   defined_alike n fine (kind.Ident text ctxt optional) [] kept h texts class object =
       subst (λ z. Alike (at c a) (defined_of n (kind.Ident text ctxt optional) [] class object (first (at c a) w))
-      (named (enum_of (c.names.to (record { sym = text; ctxt = ctxt })) c.known.enums.names) (c.names.to (record { sym = text; ctxt = ctxt })) (second (at c a) w) >>= λ r. read (second (at c a) w) r >>= λ v. define_data object z v >>= λ _. give [])) (sym texts.0)
-      (bind_by (at c a) (λ r. read (second (at c a) w) r >>= λ v. define_data object text v >>= λ _. give []) (named_alike c w _ (not_caught c.names h.0.0 (record { sym = text; ctxt = ctxt }) (among_first (record { sym = text; ctxt = ctxt }) [])) kept.0)
+      (named (enum_of (c.names.to (record { sym = text; ctxt = ctxt })) c.there.enums.names) (c.names.to (record { sym = text; ctxt = ctxt })) (second (at c a) w) >>= λ r. read (second (at c a) w) r >>= λ v. define_data object z v >>= λ _. give [])) (sym texts.0)
+      (bind_by (at c a) (λ r. read (second (at c a) w) r >>= λ v. define_data object text v >>= λ _. give []) (named_alike c w kept.2 _ (not_caught c.names h.0.0 (record { sym = text; ctxt = ctxt }) (among_first (record { sym = text; ctxt = ctxt }) [])) kept.0)
       (λ r p. bind_alike (at c a) (read_alike (at c a) w r p) (λ v. bind_alike (at c a) (define_data_alike (at c a) object text v) (λ _. give_alike (at c a) []))))
   defined_alike n fine kind.List ps kept h texts class object =
       all_stay c (λ ls ms'. Standing c w.scope (all_sought ls) → KeepTexts c (all_shorthands (meanings ls)) → Alike (at c a) (all_defined (meanings ls) class object (first (at c a) w)) (all_defined ms' class object (second (at c a) w)))

@@ -6,13 +6,13 @@ use Rattle.ecma_kind.specs.declared.operators.VarDeclKind.TheVariants.{Var, Let,
 use Rattle.ecma_runs.specs.State.{Id, default_name}
 use Rattle.ecma_runs.specs.Exports.{Local, local_as, indirect_as}
 use Rattle.ecma_runs.proofs.Exports.{KeepsDefault, default_if, changed_exports, locals-changed, local_as-changed, indirect_as-changed}
-use Rattle.ecma_runs.specs.Environment.{ids_of, empty, undefined, unfilled, import_of}
-use Rattle.ecma_runs.specs.Declarations.{all_names, names_of, name_or_default, default_names_of, all_imported, imported_as, imported_of, imported_from, text_of, all_lexicals, lexicals_of, all_vars, vars_of, locals_of, all_parameter_names, parameter_names_of, all_declared, declared_of, all_last_declared, last_declared_of, shorthands_of, all_cooked, cooked_of, all_plain, is_plain_of, is_computed_of, is_super_of, is_absent_of, is_required_of, is_this_of, all_types, is_type_of, has_body_of, any_constructor, is_constructor_of, has_no_effect, all_exports, exported_from, exports_of, all_member_texts, listed_text, member_texts_of}
+use Rattle.ecma_runs.specs.Environment.{ids_of, empty, undefined, import_of}
+use Rattle.ecma_runs.specs.Declarations.{all_names, names_of, name_or_default, default_names_of, all_imported, imported_as, imported_of, imported_from, text_of, all_lexicals, lexicals_of, all_vars, vars_of, locals_of, all_parameter_names, parameter_names_of, all_declared, declared_of, all_last_declared, last_declared_of, shorthands_of, all_cooked, cooked_of, all_plain, is_plain_of, is_computed_of, is_super_of, is_absent_of, is_required_of, is_this_of, all_types, is_type_of, has_body_of, any_constructor, is_constructor_of, has_no_effect, all_exports, exported_from, exports_of, all_member_texts, listed_text, member_texts_of, part_names_of, merged_names_of, is_export_of}
 use Rattle.ecma_runs.specs.Sought.{meanings}
 use Rattle.ecma_runs.proofs.Names.{changed_ids, changed_bindings, changed_ids-append, ids_of-changed}
 use Rattle.ecma_runs.proofs.Alike.{Change}
 use Rattle.ecma_runs.proofs.Environments.{KeepTexts}
-use Rattle.ecma_runs.proofs.Meanings.{Both, firsts, seconds, empties, undefineds, unfilleds, imports}
+use Rattle.ecma_runs.proofs.Meanings.{Both, firsts, seconds, empties, undefineds, imports}
 use Rattle.ecma_runs.proofs.Premises.{renamed_kind, KeptLayer}
 use Rattle.ecma_runs.proofs.Lists.{all_stay, all_names_same, all_declared_same, all_last_declared_same, all_parameter_names_same, all_lexicals_same, all_vars_same, all_imported_same, all_exports_same, all_member_texts_same, all_cooked_same, all_plain_same, all_types_same, any_constructor_same}
 use Rattle.ecma_runs.proofs.Classes.{joined}
@@ -83,7 +83,6 @@ module _ (c : Change) where
   lexicals_same (kind.FnDecl false) (name ∷ function ∷ []) kept = ap (map (empty false)) name.2.names ∙ empties c false name.0.meaning.names
   lexicals_same (kind.ClassDecl false) (name ∷ class ∷ []) kept = ap (map (empty false)) name.2.names ∙ empties c false name.0.meaning.names
   lexicals_same kind.SwitchCase (test ∷ statements ∷ []) kept = statements.2.lexicals
-  lexicals_same (kind.TsEnumDecl false is_const) (name ∷ members ∷ []) kept = ap (map unfilled) name.2.names ∙ unfilleds c name.0.meaning.names
   lexicals_same kind.ExportDecl (declaration ∷ []) kept = declaration.2.lexicals
   lexicals_same kind.ExportDefaultExpr (e ∷ []) kept = rw (kept.0, kept.1) refl
   lexicals_same kind.ExportDefaultDecl (declaration ∷ []) kept = ap (map (empty false)) declaration.2.default_names ∙ empties c false declaration.0.meaning.default_names
@@ -134,10 +133,11 @@ module _ (c : Change) where
   vars_same kind.CatchClause ps = all_vars_stay ps
   vars_same _ ps = refl
 
-  pub locals_same : (k : Kind) (ps : List (Both c)) → locals_of (renamed_kind c k) (seconds c ps) ≡ changed_bindings c.names (locals_of k (firsts c ps))
-  locals_same (kind.Module shebang) (body ∷ []) = joined c _ _ body.2.vars body.2.lexicals
-  locals_same kind.BlockStmt (statements ∷ []) = joined c _ _ statements.2.vars statements.2.lexicals
-  locals_same _ ps = refl
+  pub locals_same : (k : Kind) (ps : List (Both c)) → KeptLayer c k (firsts c ps) → locals_of (renamed_kind c k) (seconds c ps) ≡ changed_bindings c.names (locals_of k (firsts c ps))
+  locals_same (kind.Module shebang) (body ∷ []) kept = body.2.locals
+  locals_same kind.List ps kept = joined c _ _ (all_vars_stay ps) (lexicals_same kind.List ps tt)
+  locals_same kind.BlockStmt (statements ∷ []) kept = joined c _ _ statements.2.vars statements.2.lexicals
+  locals_same _ ps kept = refl
 
   pub parameter_names_same : (k : Kind) (ps : List (Both c)) → parameter_names_of (renamed_kind c k) (seconds c ps) ≡ changed_ids c.names (parameter_names_of k (firsts c ps))
   parameter_names_same (kind.Function false false) (parameters ∷ body ∷ types ∷ return_type ∷ []) = parameters.2.names
@@ -188,6 +188,36 @@ module _ (c : Change) where
   member_texts_same texts has kind.List ps = all_stay c (λ ls ms'. all_member_texts ms' ≡ all_member_texts (meanings ls)) (all_member_texts_same c has) ps
   member_texts_same texts has kind.TsEnumMember (name ∷ init ∷ []) = ap listed_text (name.2.text (texts name.0.meaning.shorthands))
   member_texts_same texts has _ ps = refl
+
+  -- parts of enums, where these may stand, and what they add to
+
+  module _ (ids_same : (ids : List Id) → changed_ids c.names ids ≡ ids) (has : c.enums.has ≡ true) where
+    pub part_names_same : (k : Kind) (ps : List (Both c)) → part_names_of (renamed_kind c k) (seconds c ps) ≡ part_names_of k (firsts c ps)
+    part_names_same (kind.TsEnumDecl false is_const) (name ∷ members ∷ []) = name.2.names ∙ ids_same name.0.meaning.names
+    part_names_same kind.ExportDecl (declaration ∷ []) = declaration.2.part_names has
+    part_names_same _ ps = refl
+
+    pub merged_names_same : (k : Kind) (ps : List (Both c)) → merged_names_of (renamed_kind c k) (seconds c ps) ≡ merged_names_of k (firsts c ps)
+    merged_names_same (kind.FnDecl false) (name ∷ function ∷ []) = name.2.names ∙ ids_same name.0.meaning.names
+    merged_names_same (kind.ClassDecl false) (name ∷ class ∷ []) = name.2.names ∙ ids_same name.0.meaning.names
+    merged_names_same (kind.TsEnumDecl false is_const) (name ∷ members ∷ []) = name.2.names ∙ ids_same name.0.meaning.names
+    merged_names_same (kind.TsModuleDecl false global) (name ∷ body ∷ []) = name.2.names ∙ ids_same name.0.meaning.names
+    merged_names_same kind.ExportDecl (declaration ∷ []) = declaration.2.merged_names has
+    merged_names_same kind.ExportDefaultDecl (declaration ∷ []) = declaration.2.default_names ∙ ids_same declaration.0.meaning.default_names
+    merged_names_same _ ps = refl
+
+  has_or_not : (b : Bool) → b ≡ true → b ≡ false → ⊥
+  has_or_not true has lacks = cc
+  has_or_not false has lacks = cc
+
+  pub no_part_same : (k : Kind) (ps : List (Both c)) → KeptLayer c k (firsts c ps) → c.enums.has ≡ false → (part_names_of k (firsts c ps) ≡ []) × (part_names_of (renamed_kind c k) (seconds c ps) ≡ [])
+  no_part_same (kind.TsEnumDecl false is_const) ps kept lacks = absurd (has_or_not c.enums.has kept.0 lacks)
+  no_part_same kind.ExportDecl (declaration ∷ []) kept lacks = declaration.2.no_part lacks
+  no_part_same _ ps kept lacks = (refl, refl)
+
+  pub is_export_same : (k : Kind) → is_export_of (renamed_kind c k) ≡ is_export_of k
+  is_export_same kind.ExportDecl = refl
+  is_export_same _ = refl
 
   -- what else is known
 

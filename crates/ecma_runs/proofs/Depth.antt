@@ -10,7 +10,7 @@ use Rattle.ecma_runs.specs.Laws.{CallsAreApplications}
 use Rattle.ecma_runs.proofs.Names.{changed_known, changed_scope, changed_environment}
 use Rattle.ecma_runs.proofs.Alike.{Change, changed, changed_callable, changed_object, FineCallable, AllFine, Follows, Alike}
 use Rattle.ecma_runs.proofs.Meanings.{at}
-use Rattle.ecma_runs.proofs.Kept.{StepsAlike, apply_at_alike, calls_alike}
+use Rattle.ecma_runs.proofs.Kept.{StepsAlike, all_kept, apply_at_alike, calls_alike}
 use Rattle.ecma_runs.proofs.Layers.{same_names, same_ids, same_known, same_bindings, Telling, exactly, images, nothing_excused, itself_layers, layers_alike}
 
 -- where no more turns are left than k
@@ -92,14 +92,14 @@ module _ (provided : Provided) where
     calls_as a place how arguments = record {
       at = λ s g. subst (λ r. Follows (at (below k known) a) (λ z. z) (λ z. Unit {0}) (calls provided known n place how arguments s) r)
           (ap (λ z. calls provided also z place how arguments (changed (below k known) s)) (add-zero n) ∙ agrees also place how arguments (changed (below k known) s) (let h : s.turns ≤ k = g.1 in omega arith))
-          ((calls_alike (below k known) (steps k known) provided refl refl n a place how arguments).at s g);
+          ((calls_alike (below k known) (all_kept (below k known) (steps k known)) provided refl refl n a place how arguments).at s g);
     }
 
     -- what is applied agrees as well
     applied_as : (place : ℕ) (how : Invocation) (arguments : List Value) (s : State) → s.turns ≤ k
         → apply_at (calls provided known n) provided known place how arguments s ≡ apply_at (other known) provided known place how arguments s
     applied_as place how arguments s h =
-        sym (same_outcome k known _ _ ((apply_at_alike (below k known) (steps k known) provided refl (calls provided known n) (other also) (λ a. calls_as a) (λ some. absurd (cc)) [] place how arguments).at s ((fine_all k known s.environments s.objects, tt), h, tt)))
+        sym (same_outcome k known _ _ ((apply_at_alike (below k known) (all_kept (below k known) (steps k known)) provided refl (calls provided known n) (other also) (λ a. calls_as a) (λ some. absurd (cc)) [] place how arguments).at s ((fine_all k known s.environments s.objects, tt), h, tt)))
         ∙ ap₂ (λ z t. apply_at (other z) provided z place how arguments t) (same_known known) (same_state k known s)
 
   deep_turns : (k : ℕ) → Deep k → (n m : ℕ) → k ≤ n → k ≤ m → (known : Known) (place : ℕ) (how : Invocation) (arguments : List Value) (s : State) (t : ℕ) → s.turns ≡ t → t ≤ suc k

@@ -94,12 +94,12 @@ wrappers_bare = rewritten_bare unwrapped (λ x. unwrapped_layer x x.kind x.child
 
 -- types alone go from a list, and from a bare one
 
-abbrev item_of : Node-F Node → Bool → Bool
+abbrev pub item_of : Node-F Node → Bool → Bool
 item_of x value =
     cond (is_empty_stmt x.kind) true
     (cond (belongs sort.ModuleItem x.kind) (value && not (cond (is_export x.kind) (if_there (slice_get x.children 0) (λ c. is_declared (out-Node c).kind)) (is_declared x.kind))) true)
 
-item_roll : (k : Kind) (cs : List Node) → item_stays (roll-Node (Layer k cs)) ≡ item_of (Layer k cs) (value_by k (values_in true k cs))
+pub item_roll : (k : Kind) (cs : List Node) → item_stays (roll-Node (Layer k cs)) ≡ item_of (Layer k cs) (value_by k (values_in true k cs))
 item_roll k cs = ap₂ item_of (out-roll-Node (Layer k cs)) (is_value-roll dummy_span k cs)
 
 interface_item : (declare : Bool) (cs : List Node) → item_of (Layer (kind.TsInterfaceDecl declare) cs) (value_by (kind.TsInterfaceDecl declare) (values_in true (kind.TsInterfaceDecl declare) cs)) ≡ false

@@ -10,11 +10,11 @@ use Rattle.ecma_runs.specs.declared.script.FreeValue.{FreeValue}
 use Rattle.ecma_runs.specs.declared.script.ImportValue.{ImportValue}
 use Rattle.ecma_runs.specs.declared.shown.Shown.{Shown}
 use Rattle.ecma_runs.specs.declared.shown.Shown.TheVariants as shown
-use Rattle.ecma_runs.specs.Values.{Value, Undefined, Own}
-use Rattle.ecma_runs.specs.State.{Content, Empty, Unfilled, Holds, Imported, Id, Entered, Binding, Activation, Environment, Callable, Code, Bound, Passed, Object, State}
+use Rattle.ecma_runs.specs.Values.{Value, Own}
+use Rattle.ecma_runs.specs.State.{Content, Empty, Holds, Imported, Id, Entered, Binding, Activation, Environment, Callable, Code, Bound, Passed, Object, State}
 use Rattle.ecma_runs.specs.Run.{changed_at, AnswersSpent, Outside, Outcome, Done, Thrown, Returned, Broken, Continued, Ended, Run, ◌>>=◌, give, outside, when}
 use Rattle.ecma_runs.specs.Host.{import_value, taken_if, own_at, handled, taken, number_own, show_own, show, answered, answer_from, next_answer, add_event, use_host, free_value, fixed_value, free_or, read_free, free_or_undefined, read_free_typed}
-use Rattle.ecma_runs.specs.Environment.{ids_of, copy_environment, new_environment, bindings_in, variable, with_value, set_variable, Reference, ToVariable, ToFree, ToMember, ToSuper, is_among, resolved, content_value, value_in, read_variable, unless_empty, write_in, write_variable, set_all, initialize_one, initialize, fill_content, fill_in, fill_variable, fill_one, fill, activation_in, activation_at, with_activation, set_activation, activation_or, activation, this, bind_this_in, bind_this}
+use Rattle.ecma_runs.specs.Environment.{ids_of, copy_environment, new_environment, bindings_in, variable, with_value, set_variable, Reference, ToVariable, ToFree, ToMember, ToSuper, is_among, resolved, content_value, value_in, read_variable, unless_empty, write_in, write_variable, set_all, initialize_one, initialize, activation_in, activation_at, with_activation, set_activation, activation_or, activation, this, bind_this_in, bind_this}
 use Rattle.ecma_runs.specs.Names.{TextsStay}
 use Rattle.ecma_runs.proofs.Scopes.{IsThere, AreThere, Keep, still_there, keep_push, keep_changed, pushed_there, ids_there, NotCaught, not_caught, rest}
 use Rattle.ecma_runs.proofs.Names.{Unless, unless_is, unless_map, unless_both, unless_three, Told, ToldApart, EachTold, among_first, set_in-ids, map-changed_here, keep, changed_ids, changed_entered, changed_scope, ids_of-changed, changed_binding, changed_bindings, changed_environment, binding_of-changed, is_among-changed, is_among-told, set_in-changed, set_in-gone, map-changed_at, map-unchanged_at, map-push, length-map}
@@ -149,13 +149,11 @@ module _ (c : Change) where
 
   content_value_alike : (imports : List ImportValue) (content : Content) → Alike c (content_value imports content) (content_value imports content)
   content_value_alike imports Empty = throw_alike c _
-  content_value_alike imports Unfilled = throw_alike c _
   content_value_alike imports (Holds v) = give_alike c v
   content_value_alike imports (Imported source name) = taken_if_alike (import_value imports source name)
 
   unless_empty_alike : {A : Type 0} (content : Content) {m m' : Run A} → Alike c m m' → Alike c (unless_empty content m) (unless_empty content m')
   unless_empty_alike Empty h = throw_alike c _
-  unless_empty_alike Unfilled h = throw_alike c _
   unless_empty_alike (Holds v) h = h
   unless_empty_alike (Imported source name) h = h
 
@@ -188,17 +186,6 @@ module _ (c : Change) where
 
     pub write_variable_alike : (v : Value) → c.names.kept id ≡ true → Alike c (write_variable e.place id v) (write_variable e.place (c.names.to id) v)
     write_variable_alike v kept = record { at = λ s g. rw (variable-changed e knows id told s g kept) ((write_in_alike v kept (variable e.place id s)).at s g) }
-
-    fill_content_alike : c.names.kept id ≡ true → (content : Content) → Alike c (fill_content e.place id content) (fill_content e.place (c.names.to id) content)
-    fill_content_alike kept Unfilled = set_variable_alike Undefined kept
-    fill_content_alike kept _ = give_alike c tt
-
-    fill_in_alike : c.names.kept id ≡ true → (o : Option Binding) → Alike c (fill_in e.place id o) (fill_in e.place (c.names.to id) (option_map (changed_binding c.names) o))
-    fill_in_alike kept None = give_alike c tt
-    fill_in_alike kept (Some binding) = fill_content_alike kept binding.content
-
-    pub fill_variable_alike : c.names.kept id ≡ true → Alike c (fill_variable e.place id) (fill_variable e.place (c.names.to id))
-    fill_variable_alike kept = record { at = λ s g. rw (variable-changed e knows id told s g kept) ((fill_in_alike kept (variable e.place id s)).at s g) }
 
   -- a variable that goes may be set, or not
   pub set_variable_gone : (place : ℕ) (id : Id) (v : Value) → c.names.kept id ≡ false → Alike c (set_variable place id v) (give tt)
@@ -271,21 +258,6 @@ module _ (c : Change) where
   initialize_alike scope knows (id ∷ ids) stands v =
       initialize_first scope knows id (not_caught c.names stands id (among_first id ids)) ids v (initialize_alike scope knows ids (rest c.names (id ∷ []) ids stands) v) (c.names.kept id) refl
 
-  -- the variables of enums, whose names are kept
-
-  fill_one_alike : (scope : List Entered) → AllKnown scope → (id : Id) → NotCaughtIn scope id → c.names.kept id ≡ true → Alike c (fill_one scope id) (fill_one (changed_scope c.names scope) (c.names.to id))
-  fill_one_alike [] knows id free kept = give_alike c tt
-  fill_one_alike (e ∷ outer) knows id free kept =
-      rw (is_among-changed c.names id kept e.ids (first_told e outer id free))
-      (choose_alike (is_among id e.ids) (λ is. fill_variable_alike e (first_known e outer knows) id (first_told e outer id free) kept)
-      (λ away. fill_one_alike outer (outer_known e outer knows) id (outer_free e outer id free away) kept))
-
-  pub fill_alike : (scope : List Entered) → AllKnown scope → (all : (id : Id) → c.names.kept id ≡ true) → (ids : List Id) → Standing c scope ids → Alike c (fill scope ids) (fill (changed_scope c.names scope) (changed_ids c.names ids))
-  fill_alike scope knows all [] stands = give_alike c tt
-  fill_alike scope knows all (id ∷ ids) stands =
-      rw (all id)
-      (bind_alike c (fill_one_alike scope knows id (not_caught c.names stands id (among_first id ids)) (all id)) (λ _. fill_alike scope knows all ids (rest c.names (id ∷ []) ids stands)))
-
   activation_in-changed : (o : Option Environment) → activation_in (option_map (changed_environment c.names) o) ≡ activation_in o
   activation_in-changed None = refl
   activation_in-changed (Some environment) = refl
@@ -350,13 +322,17 @@ module _ (c : Change) where
   abbrev pub AlikeReference : Run Reference → Run Reference → Type 0
   AlikeReference m m' = AlikeBy c changed_reference KeptReference m m'
 
+  -- what the module declares, the other does, as it is named there
+  declared-there : (id : Id) → NotCaughtIn [] id → c.names.kept id ≡ true → is_among (c.names.to id) c.there.declared ≡ is_among id c.known.declared
+  declared-there id free kept = c.declares id kept ∙ is_among-told c.names id kept c.known.declared free
+
   free_alike : (id : Id) → c.names.kept id ≡ true → (b : Bool) → is_among id c.known.declared ≡ b → AlikeReference (when b outside (give (ToFree id.sym))) (when b outside (give (ToFree (c.names.to id).sym)))
   free_alike id kept true e = outside_alike c
   free_alike id kept false e = rw (c.texts id kept e) (give_by c (ToFree id.sym) tt)
 
   pub resolved_alike : (scope : List Entered) → AllKnown scope → (id : Id) → NotCaughtIn scope id → c.names.kept id ≡ true
-      → AlikeReference (resolved scope c.known.declared id) (resolved (changed_scope c.names scope) (changed_ids c.names c.known.declared) (c.names.to id))
-  resolved_alike [] knows id free kept = rw (is_among-told c.names id kept c.known.declared free) (free_alike id kept (is_among id c.known.declared) refl)
+      → AlikeReference (resolved scope c.known.declared id) (resolved (changed_scope c.names scope) c.there.declared (c.names.to id))
+  resolved_alike [] knows id free kept = rw (declared-there id free kept) (free_alike id kept (is_among id c.known.declared) refl)
   resolved_alike (e ∷ outer) knows id free kept =
       rw (is_among-changed c.names id kept e.ids (first_told e outer id free))
       (choose_alike (is_among id e.ids) (λ is. give_by c (ToVariable e.place id) (kept, (e, refl, first_known e outer knows, first_told e outer id free)))

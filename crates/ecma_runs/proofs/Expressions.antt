@@ -197,7 +197,7 @@ module _ (c : Change) {a : List Entered} (w : World (at c a)) where
 
   module _ (n : Node) (fine : c.fine n) where
     pub value_alike : (k : Kind) (ps : List (Both c)) → KeptLayer c k (firsts c ps) → PlacedNode c n w.scope k (seekers c ps) → Alike d (value_of n k (firsts c ps) (first d w)) (value_of (c.node n) (renamed_kind c k) (seconds c ps) (second d w))
-    value_alike (kind.Ident text ctxt optional) [] kept h = bind_by d (λ r. read (second d w) r) (named_alike c w _ (here_free n h.0.0) kept.0) (λ r p. read_alike d w r p)
+    value_alike (kind.Ident text ctxt optional) [] kept h = bind_by d (λ r. read (second d w) r) (named_alike c w kept.2 _ (here_free n h.0.0) kept.0) (λ r p. read_alike d w r p)
     value_alike (kind.Str text raw) [] kept h = give_alike d (Text text)
     value_alike (kind.Number number raw) [] kept h = bind_alike d (given_alike d number) (λ n. give_alike d (Number n))
     value_alike (kind.Bool truth) [] kept h = give_alike d (Truth truth)
@@ -236,7 +236,7 @@ module _ (c : Change) {a : List Entered} (w : World (at c a)) where
     as_value_alike k ps kept h = bind_alike d (value_alike k ps kept h) (λ v. give_by d (ToValue v) tt)
 
     pub reference_alike : (k : Kind) (ps : List (Both c)) → KeptLayer c k (firsts c ps) → PlacedNode c n w.scope k (seekers c ps) → AlikeReference d (reference_of n k (firsts c ps) (first d w)) (reference_of (c.node n) (renamed_kind c k) (seconds c ps) (second d w))
-    reference_alike (kind.Ident text ctxt optional) [] kept h = named_alike c w _ (here_free n h.0.0) kept.0
+    reference_alike (kind.Ident text ctxt optional) [] kept h = named_alike c w kept.2 _ (here_free n h.0.0) kept.0
     reference_alike kind.BindingIdent (id ∷ annotation ∷ []) kept h = id.2.reference w (rest c.names _ _ h.0.0)
     reference_alike kind.MemberExpr (object ∷ key ∷ []) u h = read_member_alike n fine u object key (one c.names _ _ h.0.0) (two c.names _ _ _ h.0.0)
     reference_alike kind.SuperPropExpr (super ∷ key ∷ []) u h = super_reference_alike u key (two c.names _ _ _ h.0.0)
@@ -245,7 +245,7 @@ module _ (c : Change) {a : List Entered} (w : World (at c a)) where
     reference_alike k ps kept h = as_value_alike k ps kept h
 
     pub written_alike : (k : Kind) (ps : List (Both c)) → KeptLayer c k (firsts c ps) → PlacedNode c n w.scope k (seekers c ps) → AlikeReference d (written_of n k (firsts c ps) (first d w)) (written_of (c.node n) (renamed_kind c k) (seconds c ps) (second d w))
-    written_alike (kind.Ident text ctxt optional) [] kept h = written_name_alike c w _ (here_free n h.0.0) kept.0
+    written_alike (kind.Ident text ctxt optional) [] kept h = written_name_alike c w kept.2 _ (here_free n h.0.0) kept.0
     written_alike kind.BindingIdent (id ∷ annotation ∷ []) kept h = id.2.written w (rest c.names _ _ h.0.0)
     written_alike kind.MemberExpr (object ∷ key ∷ []) u h = member_reference_alike u object key (one c.names _ _ h.0.0) (two c.names _ _ _ h.0.0)
     written_alike k ps kept h = reference_alike k ps kept h

@@ -1,5 +1,5 @@
 -- Events only grow: a run does the same behind events that came before, and so its own stand behind them.
-use Rattle.std.proofs.Common.{◌≡◌, Some, ◌++◌, inl, refl, subst, subst₂, ap, sym, List, [], ◌∷◌, map, append-nil}
+use Rattle.std.proofs.Common.{◌≡◌, Some, ◌++◌, inl, refl, subst, subst₂, ap, sym, List, [], ◌∷◌, append-nil}
 use Rattle.ecma_tree.specs.declared.node.Node.{Node}
 use Rattle.ecma_runs.specs.declared.observation.Event.{Event}
 use Rattle.ecma_runs.specs.declared.observation.Ending.{Ending}
@@ -11,7 +11,7 @@ use Rattle.ecma_runs.specs.declared.script.Script.{Script}
 use Rattle.ecma_runs.specs.State.{Entered, State}
 use Rattle.ecma_runs.specs.Run.{Outcome, Done, Thrown, Returned, Broken, Continued, Ended, Run, then_outcome, ◌>>=◌, give, each}
 use Rattle.ecma_runs.specs.Host.{Provided, provided_by}
-use Rattle.ecma_runs.specs.Environment.{filled, new_environment}
+use Rattle.ecma_runs.specs.Environment.{new_environment}
 use Rattle.ecma_runs.specs.Meaning.{Known}
 use Rattle.ecma_runs.specs.Evaluation.{meaning}
 use Rattle.ecma_runs.specs.Exports.{Exported}
@@ -21,7 +21,7 @@ use Rattle.ecma_runs.proofs.Alike.{Change, changed, Follows, Alike, each_alike}
 use Rattle.ecma_runs.proofs.Names.{changed_entered}
 use Rattle.ecma_runs.proofs.Exports.{changed_exports}
 use Rattle.ecma_runs.proofs.Meanings.{World}
-use Rattle.ecma_runs.proofs.Kept.{StepsAlike, invoke_alike, module_world, act_alike, run_body_alike}
+use Rattle.ecma_runs.proofs.Kept.{AllKept, StepsAlike, all_kept, runs_kept, invoke_alike, module_world, act_alike, run_body_alike}
 use Rattle.ecma_runs.proofs.Layers.{same_names, same_ids, same_known, same_exports, exports_kept, Telling, always, nothing_excused, exactly, images, itself_layers, layers_alike}
 use Rattle.ecma_runs.proofs.Depth.{same_state, fine_all}
 
@@ -34,6 +34,9 @@ behind known before = images (λ n. n) known (after before) (exactly (λ n. Unit
 
 behind_steps : (known : Known) (before : List Event) → StepsAlike (behind known before)
 behind_steps known before = layers_alike (λ n. n) known (after before) (exactly (λ n. Unit {0}) (λ n. n) known (λ n. refl)) refl itself_layers
+
+behind_kept : (known : Known) (before : List Event) → AllKept (behind known before)
+behind_kept known before = all_kept (behind known before) (behind_steps known before)
 
 -- a state is what it is without its events, behind them
 changed_back : (known : Known) (s : State) → changed (behind known s.events) (record s { events = [] }) ≡ s
@@ -54,7 +57,7 @@ grows known m h s =
 
 module _ (provided : Provided) (known : Known) (entered : Entered) where
   abbrev behind_world : (before : List Event) → World (behind known before)
-  behind_world before = module_world (behind known before) (behind_steps known before) provided (λ u. invoke_alike (behind known before) (behind_steps known before) provided u refl) entered tt
+  behind_world before = module_world (behind known before) (behind_kept known before) provided (λ u. invoke_alike (behind known before) (behind_kept known before) provided u refl) entered tt
 
   entered_is : changed_entered same_names entered ≡ entered
   entered_is = ap (λ ids. record entered { ids = ids }) (same_ids entered.ids)
@@ -63,12 +66,12 @@ module _ (provided : Provided) (known : Known) (entered : Entered) where
   act_behind exports a before =
       subst (λ es. Alike (behind known before) (act (module_context provided known entered) exports a) (act (module_context provided known entered) es a)) (same_exports exports)
       (subst₂ (λ z e. Alike (behind known before) (act (module_context provided known entered) exports a) (act (module_context provided z e) (changed_exports same_names exports) a)) (same_known known) entered_is
-      (act_alike (behind known before) (behind_steps known before) (behind_world before) refl {ids = entered.ids} refl exports (exports_kept entered.ids exports) a))
+      (act_alike (behind known before) (behind_kept known before) (behind_world before) refl {ids = entered.ids} refl exports (exports_kept entered.ids exports) a))
 
   body_behind : (m : Node) (before : List Event) → Alike (behind known before) (run_body (module_context provided known entered) m) (run_body (module_context provided known entered) m)
   body_behind m before =
       subst₂ (λ z e. Alike (behind known before) (run_body (module_context provided known entered) m) (run_body (module_context provided z e) m)) (same_known known) entered_is
-      (run_body_alike (behind known before) (behind_steps known before) (behind_world before) m tt (record { free = tt }))
+      (run_body_alike (behind known before) (behind_kept known before) (behind_world before) m (runs_kept (behind known before) (behind_steps known before) m tt) (record { free = tt }))
 
 -- a run and another that has the same events, and maybe more
 record HasMore {A B : Type 0} (m : Run A) (m' : Run B) : Type 0 where
@@ -112,7 +115,7 @@ actions_more provided known entered exports actions more (answer.Throw v) = reco
 
 module_more : (known : Known) (m : Node) (script : Script) (more : List Action) → HasMore (run_module known m script) (run_module known m (record script { actions = script.actions ++ more }))
 module_more known m script more =
-    bind_more (new_environment (map filled (meaning m).locals) (Some module_activation)) (λ place. bind_more (run_body (module_context (provided_by script) known place) m) (λ outcome.
+    bind_more (new_environment (meaning m).locals (Some module_activation)) (λ place. bind_more (run_body (module_context (provided_by script) known place) m) (λ outcome.
     actions_more (provided_by script) known place (exports_in m) script.actions more outcome))
 
 pub observed_events : (r : Outcome Ending) → (observed r).events ≡ (state_behind r).events

@@ -12,7 +12,7 @@ use Rattle.ecma_runs.specs.declared.script.Script.{Script}
 use Rattle.ecma_runs.specs.Values.{Value, Undefined, Own, Host, Error}
 use Rattle.ecma_runs.specs.State.{Id, Environment, Entered, Activation, Sort, Plain, Method, Arrow, BaseClass, DerivedClass, Closure, State}
 use Rattle.ecma_runs.specs.Run.{give, ◌>>=◌, each, Stop, TurnsSpent, Outside, Outcome, Done, Thrown, Returned, Broken, Continued, Ended, Run}
-use Rattle.ecma_runs.specs.Environment.{ids_of, empty, filled}
+use Rattle.ecma_runs.specs.Environment.{ids_of, empty}
 use Rattle.ecma_kind.specs.declared.kind.Kind.{Kind}
 use Rattle.ecma_kind.specs.declared.kind.Kind.TheVariants as kind
 use Rattle.ecma_runs.specs.Host.{Provided, provided_by, taken}
@@ -26,12 +26,12 @@ use Rattle.ecma_runs.proofs.Exports.{changed_exports, KeepsExports}
 use Rattle.ecma_runs.proofs.Reading.{IsFirst, read_export_alike}
 use Rattle.ecma_runs.proofs.Layer.{meaning-roll}
 use Rattle.ecma_runs.proofs.Seeking.{sought-roll}
-use Rattle.ecma_runs.proofs.Names.{Unless, unless_is, unless_map, unless_both, changed_known, ids_of-filled, filled-changed}
+use Rattle.ecma_runs.proofs.Names.{Unless, unless_is, unless_map, unless_both, changed_ids, changed_bindings, changed_known}
 use Rattle.ecma_runs.proofs.Scopes.{AreThere, Opens, opened, in_empty, stands_unless, ids_of-empties}
 use Rattle.ecma_runs.proofs.Alike.{Change, changed, Standing, seeks, seeker_of, Keeps, Around, Good, Follows, Alike, bind_alike, give_alike, throw_alike, outside_alike, excused_alike, given_or_alike, each_alike, spend_alike}
 use Rattle.ecma_runs.proofs.Environments.{beside, Knows, AllKnown, enter_alike, activation_at_alike, handled_alike, taken_alike, show_alike}
 use Rattle.ecma_runs.proofs.Objects.{changed_closure, closure_at_alike, new_object_alike}
-use Rattle.ecma_runs.proofs.Meanings.{at, anywhere, newest, IsInvoke, FunctionsAlike, World, first, second, within, SameSeeking, any_seeking, Both, seekers, firsts, seconds, empties}
+use Rattle.ecma_runs.proofs.Meanings.{at, anywhere, newest, IsInvoke, FunctionsAlike, World, first, second, within, EvaluatesAlike, SameSeeking, any_seeking, Both, seekers, firsts, seconds, empties}
 use Rattle.ecma_runs.proofs.Members.{member_alike, set_member_alike}
 use Rattle.ecma_runs.proofs.Functions.{call_value_alike, construct_alike, prototype_for_alike}
 use Rattle.ecma_runs.proofs.Premises.{renamed_kind, KeptLayer, OpensLayer, Outlined}
@@ -138,12 +138,39 @@ module _ (c : Change) where
   abbrev pub InvokesAlike : (ℕ → Invocation → List Value → Run Value) → (ℕ → Invocation → List Value → Run Value) → Type 0
   InvokesAlike invoke invoke' = (a : List Entered) (place : ℕ) (how : Invocation) (arguments : List Value) → Alike (at c a) (invoke place how arguments) (invoke' place how arguments)
 
-module _ (c : Change) (steps : StepsAlike c) where
-  -- each node and its image mean alike
-  pub kept : (n : Node) → Kept c n
-  kept = ind-Node (Kept c) (λ x y is fine. steps x y.children (ap (λ z. z.children) is) fine fine)
+-- what a call asks of a node that a function keeps
+pub record CallsSame (c : Change) (m : Meaning) (s : Sought) (m' : Meaning) : Type 0 where
+  pub parameter_names : m'.parameter_names ≡ changed_ids c.names m.parameter_names
+  pub code : {a : List Entered} → c.uses ≡ true → (arguments : List Value) → EvaluatesAlike c a s.code_sought (m.code arguments) (m'.code arguments)
+  pub fields : {a : List Entered} (keys : List (List ℕ)) (object : Value) → EvaluatesAlike c a s.sought (m.fields keys object) (m'.fields keys object)
 
-  abbrev image : (n : Node) → c.fine n → Both c
+-- and what a run asks of a module
+pub record RunsSame (c : Change) (m : Meaning) (s : Sought) (m' : Meaning) : Type 0 where
+  pub hoisted : {a : List Entered} → EvaluatesAlike c a s.sought m.hoisted m'.hoisted
+  pub completion : {a : List Entered} → EvaluatesAlike c a s.sought m.completion m'.completion
+  pub locals : m'.locals ≡ changed_bindings c.names m.locals
+  pub exports : m'.exports None ≡ changed_exports c.names (m.exports None)
+
+-- each node that a function keeps and its image do alike where they are called
+abbrev pub AllKept : Change → Type 0
+AllKept c = (n : Node) → c.fine n → CallsSame c (meaning n) (seeks c n) (meaning (c.node n))
+
+-- a node and its image mean alike where the steps do
+pub kept : (c : Change) → StepsAlike c → (n : Node) → Kept c n
+kept c steps = ind-Node (Kept c) (λ x y is fine. steps x y.children (ap (λ z. z.children) is) fine fine)
+
+pub all_kept : (c : Change) → StepsAlike c → AllKept c
+all_kept c steps n fine = let same = kept c steps n fine in record { parameter_names = same.parameter_names; code = same.code; fields = same.fields }
+
+pub runs_kept : (c : Change) → StepsAlike c → (n : Node) → c.fine n → RunsSame c (meaning n) (seeks c n) (meaning (c.node n))
+runs_kept c steps n fine = let same = kept c steps n fine in record { hoisted = same.hoisted; completion = same.completion; locals = same.locals; exports = same.exports None }
+
+module _ (c : Change) (kept : AllKept c) where
+  -- a node, and its image
+  abbrev Called : Type 0
+  Called = (l : Seeker) × (m : Meaning) × CallsSame c l.meaning l.seeks m
+
+  abbrev image : (n : Node) → c.fine n → Called
   image n fine = (seeker_of c n, meaning (c.node n), kept n fine)
 
   -- calls, where functions may be used
@@ -165,7 +192,7 @@ module _ (c : Change) (steps : StepsAlike c) where
   or_this_alike place Undefined = bind_alike (at c _) (activation_at_alike (at c _) place) (λ o. this_of_alike o)
   or_this_alike place _ = throw_alike (at c _) _
 
-  module _ {a : List Entered} (w : World (at c a)) (u : c.uses ≡ true) (p : Both c) (opens : Unless c.names.plain (Opens c.names p.0.meaning.parameter_names p.0.seeks.sought p.0.seeks.code_sought)) (s : Standing c w.scope p.0.seeks.sought) where
+  module _ {a : List Entered} (w : World (at c a)) (u : c.uses ≡ true) (p : Called) (opens : Unless c.names.plain (Opens c.names p.0.meaning.parameter_names p.0.seeks.sought p.0.seeks.code_sought)) (s : Standing c w.scope p.0.seeks.sought) where
     entered_alike : (o : Option Activation) (arguments : List Value) (finish : ℕ → Value → Run Value) → ((b : List Entered) (place : ℕ) (v : Value) → Alike (at c b) (finish place v) (finish place v))
         → Alike (at c a) (entered p.0.meaning o arguments finish (first (at c a) w)) (entered p.1 o arguments finish (second (at c a) w))
     entered_alike o arguments finish h =
@@ -204,7 +231,7 @@ module _ (c : Change) (steps : StepsAlike c) where
     world {a} f f' h scope there = record { functions = f; functions' = f'; provided = provided; alike = λ u. anywhere c a provided f f' (h u); scope = scope; there = there }
 
     abbrev pub known' : Known
-    known' = changed_known c.names c.known
+    known' = c.there
 
     module _ (u : c.uses ≡ true) where
       -- where the scopes of a closure are known to be those of records
@@ -314,8 +341,8 @@ module _ (c : Change) (steps : StepsAlike c) where
     act_alike action' = shown_to_host_alike a _ _ (done_by_alike action')
 
   module _ {a : List Entered} (w : World (at c a)) where
-    pub run_body_alike : (n : Node) → c.fine n → Standing (at c a) w.scope (seeks c n).sought → Alike (at c a) (run_body (first (at c a) w) n) (run_body (second (at c a) w) (c.node n))
-    run_body_alike n fine s = shown_to_host_alike a _ _ (bind_alike (at c a) ((kept n fine).hoisted w s) (λ _. bind_alike (at c a) ((kept n fine).completion w s) (λ _. give_alike (at c a) Undefined)))
+    pub run_body_alike : (n : Node) → RunsSame c (meaning n) (seeks c n) (meaning (c.node n)) → Standing (at c a) w.scope (seeks c n).sought → Alike (at c a) (run_body (first (at c a) w) n) (run_body (second (at c a) w) (c.node n))
+    run_body_alike n same s = shown_to_host_alike a _ _ (bind_alike (at c a) (same.hoisted w s) (λ _. bind_alike (at c a) (same.completion w s) (λ _. give_alike (at c a) Undefined)))
 
     -- actions may use functions
     abbrev pub MayAct : List Action → Type 0
@@ -340,19 +367,12 @@ module _ (c : Change) (steps : StepsAlike c) where
     module_world e knows = world provided (functions_with (invoke provided c.known) provided c.known) (functions_with (invoke provided (known' provided)) provided (known' provided))
         (λ u. functions_with_alike provided u (invoke provided c.known) (invoke provided (known' provided)) (calls_do u) (λ some. refl)) (e ∷ []) (unless_map c.names.plain (λ k es around. (k es around, tt)) knows)
 
-  pub known_alike : (options : Config) (n : Node) → c.fine n → known_of options n ≡ c.known → enums_of options (c.node n) ≡ enums_of options n → known_of options (c.node n) ≡ changed_known c.names c.known
-  known_alike options n fine is stay =
-      let one : known_of options (c.node n) ≡ changed_known c.names (known_of options n) = λ i. record { declared = (kept n fine).declared i; enums = stay i } in one ∙ ap (changed_known c.names) is
-
-  exports_alike : (n : Node) → c.fine n → exports_in (c.node n) ≡ changed_exports c.names (exports_in n)
-  exports_alike n fine = (kept n fine).exports None
-
   module _ (script : Script) (calls_do : CallsDoAlike (provided_by script)) where
-    pub run_module_alike : (n : Node) → c.fine n → Unless c.names.plain (Opens c.names (ids_of (meaning n).locals) (left_free c n) (seeks c n).sought) → Standing c [] (left_free c n) → KeepsExports c.names (ids_of (meaning n).locals) (exports_in n) → (c.uses ≡ true) ⊎ (script.actions ≡ []) → Alike c (run_module c.known n script) (run_module (changed_known c.names c.known) (c.node n) script)
-    run_module_alike n fine opens s keeps may =
-        rw ((kept n fine).locals, filled-changed c.names (meaning n).locals, exports_alike n fine)
-        (enter_alike c (λ e. run_body (module_context (provided_by script) (known' (provided_by script)) e) (c.node n) >>= λ outcome. run_actions (module_context (provided_by script) (known' (provided_by script)) e) (changed_exports c.names (exports_in n)) script.actions outcome) (map filled (meaning n).locals) (Some module_activation) (λ e ids.
-        bind_alike (beside c e) (run_body_alike (module_world (provided_by script) calls_do e (newest c e)) n fine (opened c.names opens s e (ids ∙ ids_of-filled (meaning n).locals))) (λ outcome. run_actions_alike (module_world (provided_by script) calls_do e (newest c e)) (ids ∙ ids_of-filled (meaning n).locals) (exports_in n) keeps script.actions may outcome)))
+    pub run_module_alike : (n : Node) → RunsSame c (meaning n) (seeks c n) (meaning (c.node n)) → Unless c.names.plain (Opens c.names (ids_of (meaning n).locals) (left_free c n) (seeks c n).sought) → Standing c [] (left_free c n) → KeepsExports c.names (ids_of (meaning n).locals) (exports_in n) → (c.uses ≡ true) ⊎ (script.actions ≡ []) → Alike c (run_module c.known n script) (run_module c.there (c.node n) script)
+    run_module_alike n same opens s keeps may =
+        rw (same.locals, same.exports)
+        (enter_alike c (λ e. run_body (module_context (provided_by script) (known' (provided_by script)) e) (c.node n) >>= λ outcome. run_actions (module_context (provided_by script) (known' (provided_by script)) e) (changed_exports c.names (exports_in n)) script.actions outcome) (meaning n).locals (Some module_activation) (λ e ids.
+        bind_alike (beside c e) (run_body_alike (module_world (provided_by script) calls_do e (newest c e)) n same (opened c.names opens s e ids)) (λ outcome. run_actions_alike (module_world (provided_by script) calls_do e (newest c e)) ids (exports_in n) keeps script.actions may outcome)))
 
 unless_not : {P : Type 0} (b : Bool) → b ≢ true → Unless b P → P
 unless_not true h p = absurd (h refl)
@@ -380,13 +400,24 @@ module _ (c : Change) (none_before : c.before ≡ []) where
   abbrev pub MayStart : Node → Type 0
   MayStart m = Unless c.names.plain (Opens c.names (ids_of (meaning m).locals) (left_free c m) (seeks c m).sought) × Standing c [] (left_free c m) × Around c [] × KeepsExports c.names (ids_of (meaning m).locals) (exports_in m)
 
-  pub observe_while : (steps : StepsAlike c) → c.uses ≡ true → (script : Script) → CallsDoAlike c steps (provided_by script) → (turns : ℕ) (options : Config) (m : Node) → c.fine m → known_of options m ≡ c.known → enums_of options (c.node m) ≡ enums_of options m → MayStart m → c.holds turns → c.said []
+  pub observe_kept_while : (kept : AllKept c) → c.uses ≡ true → (script : Script) → CallsDoAlike c kept (provided_by script) → (turns : ℕ) (options : Config) (m : Node) → RunsSame c (meaning m) (seeks c m) (meaning (c.node m))
+      → known_of options m ≡ c.known → known_of options (c.node m) ≡ c.there → MayStart m → c.holds turns → c.said []
       → IsNotExcused c.excused (observe turns options m script).ending → observe (turns + c.more) options (c.node m) script ≡ observe turns options m script
-  observe_while steps u script calls_do turns options m fine is stay starts' holds said h =
-      ap₂ (λ k s. observed (run_module k (c.node m) script s)) (known_alike c steps options m fine is stay) (sym (starts turns script))
-      ∙ observed_follows _ _ (subst (λ k. Follows c (λ a. a) (λ a. Unit {0}) (run_module k m script (start turns script)) (run_module (changed_known c.names c.known) (c.node m) script (changed c (start turns script)))) (sym is)
-      ((run_module_alike c steps script calls_do m fine starts'.0 starts'.1 starts'.3 (inl u)).at (start turns script) ((tt, starts'.2), holds, said))) h
+  observe_kept_while kept u script calls_do turns options m same is there starts' holds said h =
+      ap₂ (λ k s. observed (run_module k (c.node m) script s)) there (sym (starts turns script))
+      ∙ observed_follows _ _ (subst (λ k. Follows c (λ a. a) (λ a. Unit {0}) (run_module k m script (start turns script)) (run_module c.there (c.node m) script (changed c (start turns script)))) (sym is)
+      ((run_module_alike c kept script calls_do m same starts'.0 starts'.1 starts'.3 (inl u)).at (start turns script) ((tt, starts'.2), holds, said))) h
 
-  pub observe_unless : StepsAlike c → c.uses ≡ true → c.passed ≡ None → (turns : ℕ) (options : Config) (m : Node) (script : Script) → c.fine m → known_of options m ≡ c.known → enums_of options (c.node m) ≡ enums_of options m → MayStart m → c.holds turns → c.said []
-      → IsNotExcused c.excused (observe turns options m script).ending → observe (turns + c.more) options (c.node m) script ≡ observe turns options m script
-  observe_unless steps u none turns options m script = observe_while steps u script (λ u. invoke_alike c steps (provided_by script) u none) turns options m
+  known_alike : StepsAlike c → (options : Config) (n : Node) → c.fine n → known_of options n ≡ c.known → enums_of options (c.node n) ≡ enums_of options n → known_of options (c.node n) ≡ changed_known c.names c.known
+  known_alike steps options n fine is stay =
+      let one : known_of options (c.node n) ≡ changed_known c.names (known_of options n) = λ i. record { declared = (kept c steps n fine).declared i; enums = stay i } in one ∙ ap (changed_known c.names) is
+
+  -- where the same is known of the other module, but for the names
+  pub observe_while : (steps : StepsAlike c) → c.uses ≡ true → c.there ≡ changed_known c.names c.known → (script : Script) → CallsDoAlike c (all_kept c steps) (provided_by script) → (turns : ℕ) (options : Config) (m : Node) → c.fine m → known_of options m ≡ c.known
+      → enums_of options (c.node m) ≡ enums_of options m → MayStart m → c.holds turns → c.said [] → IsNotExcused c.excused (observe turns options m script).ending → observe (turns + c.more) options (c.node m) script ≡ observe turns options m script
+  observe_while steps u there script calls_do turns options m fine is stay =
+      observe_kept_while (all_kept c steps) u script calls_do turns options m (runs_kept c steps m fine) is (known_alike steps options m fine is stay ∙ sym there)
+
+  pub observe_unless : StepsAlike c → c.uses ≡ true → c.passed ≡ None → c.there ≡ changed_known c.names c.known → (turns : ℕ) (options : Config) (m : Node) (script : Script) → c.fine m → known_of options m ≡ c.known → enums_of options (c.node m) ≡ enums_of options m → MayStart m
+      → c.holds turns → c.said [] → IsNotExcused c.excused (observe turns options m script).ending → observe (turns + c.more) options (c.node m) script ≡ observe turns options m script
+  observe_unless steps u none there turns options m script = observe_while steps u there script (λ u. invoke_alike c (all_kept c steps) (provided_by script) u none) turns options m

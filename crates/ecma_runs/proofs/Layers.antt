@@ -1,5 +1,5 @@
 -- Laws that hold since a map of trees keeps the meaning of each layer: spans, sources of literals, type wrappers and parentheses do not matter, nor do spare turns.
-use Rattle.std.proofs.Common.{◌≡◌, ◌≢◌, ◌⊎◌, ℕ, suc, inl, inr, refl, sym, ap, ap₂, ◌∙◌, List, [], ◌∷◌, map, map-id, Option, None, Bool, true, false, not, add-zero}
+use Rattle.std.proofs.Common.{◌≡◌, ◌≢◌, ◌⊎◌, ℕ, suc, inl, inr, refl, sym, ap, ap₂, ◌∙◌, List, [], ◌∷◌, map, map-id, None, Bool, true, false, not, add-zero}
 use Rattle.ecma_kind.specs.declared.kind.Kind.{Kind}
 use Rattle.ecma_kind.specs.declared.kind.Kind.TheVariants as kind
 use Rattle.ecma_tree.specs.declared.node.Node.{Node, Node-F, fold-roll-Node, roll-Node}
@@ -94,23 +94,23 @@ pub false_true : false ≡ true → ⊥
 false_true e = cc
 
 -- enums, where trees are bare as their images are
-abbrev pub exactly : (fine : Node → Type 0) (f : Node → Node) (known : Known) → ((n : Node) → bare (f n) ≡ bare n) → EnumsStand known.enums same_names true None f fine
+abbrev pub exactly : (fine : Node → Type 0) (f : Node → Node) (known : Known) → ((n : Node) → bare (f n) ≡ bare n) → EnumsStand known.enums known.enums same_names true f fine
 exactly fine f known bares = record {
   has = true;
   may_change = false;
   lacking = λ e. absurd (true_false e);
-  exact = λ e. record { plain = refl; same = λ id. refl; all = λ id. refl; used = refl; nothing_passed = refl };
+  exact = λ e. record { plain = refl; same = λ id. refl; all = λ id. refl; used = refl };
   reads = λ n h. ap (λ z. reading_among known.enums.members (known_read true known.enums.members z) (sought_read known.enums.may_change known.enums.members z)) (bares n);
 }
 
 -- where none stands
-abbrev pub without_enums : (fine : Node → Type 0) (f : Node → Node) (names : Naming) (uses : Bool) (passed : Option (Node → Node)) (enums : Enums) (may_change : Bool) → enums ≡ no_enums may_change → EnumsStand enums names uses passed f fine
-without_enums fine f names uses passed enums may_change is =
-    record { has = false; may_change = may_change; lacking = λ e. is; exact = λ e. absurd (false_true e); reads = λ n h. no_reading enums may_change is (f n) n }
+abbrev pub without_enums : (fine : Node → Type 0) (f : Node → Node) (names : Naming) (uses : Bool) (enums : Enums) (may_change : Bool) → enums ≡ no_enums may_change → EnumsStand enums enums names uses f fine
+without_enums fine f names uses enums may_change is =
+    record { has = false; may_change = may_change; lacking = λ e. (is, is); exact = λ e. absurd (false_true e); reads = λ n h. no_reading enums may_change is (f n) n }
 
 -- functions keep the images of their nodes, of these something is true, and names are mapped
 abbrev pub images_named : (fine : Node → Type 0) (f : Node → Node) (names : Naming) (known : Known) → ((id : Id) → names.kept id ≡ true → is_among id known.declared ≡ false → (names.to id).sym ≡ id.sym) → Telling
-    → EnumsStand known.enums names true None f fine → Change
+    → EnumsStand known.enums known.enums names true f fine → Change
 images_named fine f names known texts t enums = record {
   node = f;
   fine = fine;
@@ -129,13 +129,15 @@ images_named fine f names known texts t enums = record {
   uses = true;
   said = λ events. Unit {0};
   adds = λ u events event h. tt;
+  there = changed_known names known;
+  declares = λ id kept. refl;
   enums = enums;
 }
 
-abbrev pub images_where : (fine : Node → Type 0) (f : Node → Node) (known : Known) → Telling → EnumsStand known.enums same_names true None f fine → Change
+abbrev pub images_where : (fine : Node → Type 0) (f : Node → Node) (known : Known) → Telling → EnumsStand known.enums known.enums same_names true f fine → Change
 images_where fine f known t enums = images_named fine f same_names known (λ id kept free. refl) t enums
 
-abbrev pub images : (f : Node → Node) (known : Known) → Telling → EnumsStand known.enums same_names true None f (λ n. Unit {0}) → Change
+abbrev pub images : (f : Node → Node) (known : Known) → Telling → EnumsStand known.enums known.enums same_names true f (λ n. Unit {0}) → Change
 images = images_where (λ n. Unit {0})
 
 -- where names are told apart everywhere, nothing has to be known before a module runs
@@ -153,7 +155,7 @@ all_units (n ∷ ns) = (tt, all_units ns)
 abbrev pub KeepsLayers : (Node → Node) → Type 0
 KeepsLayers f = (x : Node-F Node) → meaning (f (roll-Node x)) ≡ meaning_by (f (roll-Node x)) x.kind (map meaning (map f x.children))
 
-module _ (fine : Node → Type 0) (f : Node → Node) (known : Known) (t : Telling) (enums : EnumsStand known.enums same_names true None f fine) where
+module _ (fine : Node → Type 0) (f : Node → Node) (known : Known) (t : Telling) (enums : EnumsStand known.enums known.enums same_names true f fine) where
   abbrev of : Change
   of = images_where fine f known t enums
 
@@ -169,7 +171,7 @@ module _ (fine : Node → Type 0) (f : Node → Node) (known : Known) (t : Telli
   still parameters body = ap₂ have_one_of (same_ids parameters.names) (same_bindings body.locals)
 
   pub kept_layer : (k : Kind) (ms : List Meaning) → MayStand k → KeptLayer of k ms
-  kept_layer (kind.Ident text ctxt optional) ms may = (refl, refl)
+  kept_layer (kind.Ident text ctxt optional) ms may = (refl, refl, λ has. refl)
   kept_layer kind.ExportDefaultExpr ms may = (refl, refl)
   kept_layer kind.FnExpr ms may = (refl, refl)
   kept_layer kind.ClassExpr ms may = (refl, refl)
@@ -195,17 +197,18 @@ module _ (fine : Node → Type 0) (f : Node → Node) (known : Known) (t : Telli
   kept_layer (kind.ArrowExpr false false) (parameters ∷ body ∷ types ∷ return_type ∷ []) may = still parameters body
   kept_layer kind.SetterProp (key ∷ this_parameter ∷ parameter ∷ body ∷ []) may = still parameter body
   kept_layer (kind.Constructor accessibility is_optional) (key ∷ parameters ∷ body ∷ []) may = still parameters body
-  kept_layer (kind.TsEnumDecl false is_const) ms may = may refl
+  kept_layer (kind.TsEnumDecl false is_const) ms may = (may refl, λ has. refl)
+  kept_layer kind.TsEnumMember ms may = λ has. refl
   kept_layer _ ms may = tt
 
-module _ (f : Node → Node) (known : Known) (t : Telling) (enums : EnumsStand known.enums same_names true None f (λ n. Unit {0})) where
+module _ (f : Node → Node) (known : Known) (t : Telling) (enums : EnumsStand known.enums known.enums same_names true f (λ n. Unit {0})) where
   pub layers_alike : enums.has ≡ true → KeepsLayers f → StepsAlike (images f known t enums)
   layers_alike has layers x ns is fine fine' =
       layer_same (images f known t enums) x ns is tt (all_units x.children) (kept_layer (λ n. Unit {0}) f known t enums x.kind (map meaning x.children) (λ e. has)) tt
       (layers x ∙ ap (λ k. meaning_by (f (roll-Node x)) k (map meaning (map f x.children))) (sym (same_kind (λ n. Unit {0}) f known t enums x.kind)))
 
 -- so is what is known of enums, where the map keeps bare trees
-pub same_enums : (f : Node → Node) (options : Config) (m : Node) → bare (f m) ≡ bare m → {known : Known} {t : Telling} {fine : Node → Type 0} {enums : EnumsStand known.enums same_names true None f fine}
+pub same_enums : (f : Node → Node) (options : Config) (m : Node) → bare (f m) ≡ bare m → {known : Known} {t : Telling} {fine : Node → Type 0} {enums : EnumsStand known.enums known.enums same_names true f fine}
     → SameSeeking (images_where fine f known t enums) (meaning m) (seeks (images_where fine f known t enums) m) (meaning (f m)) → enums_of options (f m) ≡ enums_of options m
 same_enums f options m bares same =
     let declared : (meaning (f m)).declared ≡ (meaning m).declared = same.declared ∙ same_ids (meaning m).declared in
@@ -213,7 +216,7 @@ same_enums f options m bares same =
     λ i. enums_in options (declared i) (local_ids (exports i)) (bares i)
 
 -- trees without enums
-module _ (f : Node → Node) (known : Known) (t : Telling) (enums : EnumsStand known.enums same_names true None f Lacks) where
+module _ (f : Node → Node) (known : Known) (t : Telling) (enums : EnumsStand known.enums known.enums same_names true f Lacks) where
   not_enum : (b : Bool) → not b ≡ true → b ≡ true → ⊥
   not_enum true h e = cc
   not_enum false h e = cc
@@ -227,10 +230,10 @@ module _ (f : Node → Node) (known : Known) (t : Telling) (enums : EnumsStand k
 -- a map of trees that keeps the meaning of each layer keeps what is observed
 pub observe_kept : (f : Node → Node) → KeepsLayers f → ((n : Node) → bare (f n) ≡ bare n) → (turns : ℕ) (options : Config) (m : Node) (script : Script) → observe turns options (f m) script ≡ observe turns options m script
 observe_kept f layers bares turns options m script =
-    let enums : EnumsStand (known_of options m).enums same_names true None f (λ n. Unit {0}) = exactly (λ n. Unit {0}) f (known_of options m) bares in
+    let enums : EnumsStand (known_of options m).enums (known_of options m).enums same_names true f (λ n. Unit {0}) = exactly (λ n. Unit {0}) f (known_of options m) bares in
     let steps : StepsAlike (images f (known_of options m) the_same enums) = layers_alike f (known_of options m) the_same enums refl layers in
     ap (λ n. observe n options (f m) script) (sym (add-zero turns))
-    ∙ observe_unless (images f (known_of options m) the_same enums) refl steps refl refl turns options m script tt refl
+    ∙ observe_unless (images f (known_of options m) the_same enums) refl steps refl refl refl turns options m script tt refl
     (same_enums f options m (bares m) (kept (images f (known_of options m) the_same enums) steps m tt)) plain_starts tt tt (none_excused _)
 
 -- so it does of trees without enums, where its images are such trees
@@ -238,9 +241,9 @@ pub observe_lacking : (f : Node → Node) → KeepsLayers f → ((n : Node) → 
 observe_lacking f layers keeps turns options m script lacks =
     let known : Known = known_of options m in
     let none : known.enums ≡ no_enums options.ts_enum_is_mutable = lacking_enums options m lacks in
-    let enums : EnumsStand known.enums same_names true None f Lacks = without_enums Lacks f same_names true None known.enums options.ts_enum_is_mutable none in
+    let enums : EnumsStand known.enums known.enums same_names true f Lacks = without_enums Lacks f same_names true known.enums options.ts_enum_is_mutable none in
     ap (λ n. observe n options (f m) script) (sym (add-zero turns))
-    ∙ observe_unless (images_where Lacks f known the_same enums) refl (lacking_steps f known the_same enums layers) refl refl turns options m script lacks refl
+    ∙ observe_unless (images_where Lacks f known the_same enums) refl (lacking_steps f known the_same enums layers) refl refl refl turns options m script lacks refl
     (lacking_enums options (f m) (keeps m lacks) ∙ sym none) plain_starts tt tt (none_excused _)
 
 -- what a rule makes of a layer means what the layer does: then so does what rewriting by the rule makes of a tree
@@ -312,6 +315,6 @@ with_turns more = record { more = more; before = []; excused = turns_only; turns
 pub spare_turns_do_not_matter : SpareTurnsDoNotMatter
 spare_turns_do_not_matter turns more options m script h =
     let known : Known = known_of options m in
-    let enums : EnumsStand known.enums same_names true None (λ n. n) (λ n. Unit {0}) = exactly (λ n. Unit {0}) (λ n. n) known (λ n. refl) in
-    observe_unless (images (λ n. n) known (with_turns more) enums) refl (layers_alike (λ n. n) known (with_turns more) enums refl itself_layers) refl refl turns options m script tt refl refl plain_starts tt tt
+    let enums : EnumsStand known.enums known.enums same_names true (λ n. n) (λ n. Unit {0}) = exactly (λ n. Unit {0}) (λ n. n) known (λ n. refl) in
+    observe_unless (images (λ n. n) known (with_turns more) enums) refl (layers_alike (λ n. n) known (with_turns more) enums refl itself_layers) refl refl refl turns options m script tt refl refl plain_starts tt tt
     (only_turns_excused (observe turns options m script).ending h)

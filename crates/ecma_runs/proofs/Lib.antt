@@ -17,11 +17,14 @@ pub mod Classes
 pub mod Statements
 pub mod Declarations
 pub mod Blocks
+pub mod Variables
 pub mod Steps
 pub mod Layer
 pub mod Seeking
 pub mod Kept
 pub mod EnumTrees
+pub mod Partless
+pub mod BareLists
 pub mod Layers
 mod Parentheses
 pub mod Types

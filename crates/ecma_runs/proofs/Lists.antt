@@ -43,6 +43,8 @@ module _ (c : Change) where
     pub last_declared : changed_ids c.names m.last_declared ≡ []
     pub imported : (source : List ℕ) → changed_bindings c.names (m.imported source) ≡ []
     pub member_texts : c.enums.has ≡ true → m.member_texts ≡ []
+    pub part_names : m.part_names ≡ []
+    pub merged_names : c.enums.has ≡ true → m.merged_names ≡ []
     pub exports : (source : Option (List ℕ)) → changed_exports c.names (m.exports source) ≡ []
     pub cooked : m.cooked ≡ Some []
     pub is_plain : m.is_plain ≡ true

@@ -1,15 +1,15 @@
 -- Meanings that do alike in each role.
-use Rattle.std.proofs.Common.{◌≡◌, ℕ, List, ◌∷◌, ◌++◌, map, Option, Some, None, Bool, true, is_some, option_map, refl}
+use Rattle.std.proofs.Common.{◌≡◌, ℕ, List, [], ◌∷◌, ◌++◌, map, Option, Some, None, Bool, true, false, is_some, option_map, refl}
 use Rattle.ecma_runs.specs.Host.{Provided}
 use Rattle.ecma_runs.specs.Values.{Value}
 use Rattle.ecma_runs.specs.State.{Id, Entered, Sort}
 use Rattle.ecma_runs.specs.Run.{Run}
-use Rattle.ecma_runs.specs.Environment.{Reference, ids_of, except, empty, undefined, unfilled, import_of}
+use Rattle.ecma_runs.specs.Environment.{Reference, ids_of, except, empty, undefined, import_of}
 use Rattle.ecma_runs.specs.Meaning.{Invocation, Functions, ExecutionContext, Meaning}
 use Rattle.ecma_runs.specs.Sought.{Sought, nothing_sought, Seeker, meanings}
 use Rattle.ecma_runs.specs.Evaluation.{fields_with, invoke}
 use Rattle.ecma_runs.proofs.Scopes.{Opens, always_stands}
-use Rattle.ecma_runs.proofs.Names.{Unless, unless_is, unless_map, unless_both, unless_plain, EachTold, changed_ids, changed_scope, changed_bindings, changed_bindings-map, changed_known}
+use Rattle.ecma_runs.proofs.Names.{Unless, unless_is, unless_map, unless_both, unless_plain, EachTold, changed_ids, changed_scope, changed_bindings, changed_bindings-map}
 use Rattle.ecma_runs.proofs.Exports.{changed_exports}
 use Rattle.ecma_runs.proofs.Alike.{Change, Standing, AlikeBy, Alike}
 use Rattle.ecma_runs.proofs.Environments.{beside, Knows, AllKnown, KeepTexts, changed_reference, KeptReference, AlikeReference}
@@ -21,14 +21,14 @@ at c a = record c { around = a }
 module _ (c : Change) where
   -- calls of the other run that are known to be those of its module
   abbrev pub IsInvoke : Provided → (ℕ → Invocation → List Value → Run Value) → Type 0
-  IsInvoke provided invoke' = is_some c.passed ≡ true → invoke' ≡ invoke provided (changed_known c.names c.known)
+  IsInvoke provided invoke' = is_some c.passed ≡ true → invoke' ≡ invoke provided c.there
 
   -- functions that do alike; where the other run has functions for what is passed over, its calls are known, and fields may be defined
   pub record FunctionsAlike (provided : Provided) (f f' : Functions) : Type 0 where
     pub invoke : {a : List Entered} (place : ℕ) (how : Invocation) (arguments : List Value) → Alike (at c a) (f.invoke place how arguments) (f'.invoke place how arguments)
     pub fields : {a : List Entered} (place : ℕ) (object : Value) → Alike (at c a) (f.fields place object) (f'.fields place object)
     pub is_invoke : IsInvoke provided f'.invoke
-    pub fields_as : {a : List Entered} → is_some c.passed ≡ true → (place : ℕ) (object : Value) → Alike (at c a) (f.fields place object) (fields_with f'.invoke provided (changed_known c.names c.known) place object)
+    pub fields_as : {a : List Entered} → is_some c.passed ≡ true → (place : ℕ) (object : Value) → Alike (at c a) (f.fields place object) (fields_with f'.invoke provided c.there place object)
 
   -- the contexts in which the two runs stand: with functions of their own, and what is known of the module
   pub record World : Type 0 where
@@ -44,7 +44,7 @@ module _ (c : Change) where
   first w = record { functions = w.functions; scope = w.scope; provided = w.provided; known = c.known }
 
   abbrev pub second : World → ExecutionContext
-  second w = record { functions = w.functions'; scope = changed_scope c.names w.scope; provided = w.provided; known = changed_known c.names c.known }
+  second w = record { functions = w.functions'; scope = changed_scope c.names w.scope; provided = w.provided; known = c.there }
 
 module _ (c : Change) where
   -- functions do alike whatever else is known of records
@@ -113,6 +113,7 @@ module _ (c : Change) where
     pub member : {a : List Entered} → c.enums.has ≡ true → (leaves_out : Bool) (ids : List Id) → EvaluatesAlike a s.sought (m.member leaves_out ids) (m'.member leaves_out ids)
     pub varied : {a : List Entered} → EvaluatesAlike a s.sought m.varied m'.varied
     pub hoisted : {a : List Entered} → EvaluatesAlike a s.sought m.hoisted m'.hoisted
+    pub module_body : {a : List Entered} → EvaluatesAlike a s.sought m.module_body m'.module_body
     pub last : {a : List Entered} → EvaluatesAlike a s.sought m.last m'.last
     pub effect : {a : List Entered} → EvaluatesAlike a s.sought m.effect m'.effect
     pub test : {a : List Entered} → EvaluatesAlike a s.sought m.test m'.test
@@ -141,6 +142,11 @@ module _ (c : Change) where
     pub imported : (source : List ℕ) → m'.imported source ≡ changed_bindings c.names (m.imported source)
     pub text : KeepTexts c m.shorthands → m'.text ≡ m.text
     pub member_texts : c.enums.has ≡ true → m'.member_texts ≡ m.member_texts
+    -- parts stand only where enums may
+    pub part_names : c.enums.has ≡ true → m'.part_names ≡ m.part_names
+    pub merged_names : c.enums.has ≡ true → m'.merged_names ≡ m.merged_names
+    pub no_part : c.enums.has ≡ false → (m.part_names ≡ []) × (m'.part_names ≡ [])
+    pub is_export : m'.is_export ≡ m.is_export
     pub exports : (source : Option (List ℕ)) → m'.exports source ≡ changed_exports c.names (m.exports source)
     pub cooked : m'.cooked ≡ m.cooked
     pub is_plain : m'.is_plain ≡ m.is_plain
@@ -183,6 +189,7 @@ module _ (c : Change) where
       member = λ has leaves_out ids w z. same.member has leaves_out ids w stand;
       varied = λ w z. same.varied w stand;
       hoisted = λ w z. same.hoisted w stand;
+      module_body = λ w z. same.module_body w stand;
       last = λ w z. same.last w stand;
       effect = λ w z. same.effect w stand;
       test = λ w z. same.test w stand;
@@ -208,6 +215,10 @@ module _ (c : Change) where
       imported = same.imported;
       text = same.text;
       member_texts = same.member_texts;
+      part_names = same.part_names;
+      merged_names = same.merged_names;
+      no_part = same.no_part;
+      is_export = same.is_export;
       exports = same.exports;
       cooked = same.cooked;
       is_plain = same.is_plain;
@@ -244,9 +255,6 @@ module _ (c : Change) where
 
   pub imports : (source name : List ℕ) (ids : List Id) → map (import_of source name) (changed_ids c.names ids) ≡ changed_bindings c.names (map (import_of source name) ids)
   imports source name ids = changed_bindings-map c.names (import_of source name) (λ id. refl) (λ id. refl) ids
-
-  pub unfilleds : (ids : List Id) → map unfilled (changed_ids c.names ids) ≡ changed_bindings c.names (map unfilled ids)
-  unfilleds ids = changed_bindings-map c.names unfilled (λ id. refl) (λ id. refl) ids
 
   pub undefineds : (ids : List Id) → map undefined (changed_ids c.names ids) ≡ changed_bindings c.names (map undefined ids)
   undefineds ids = changed_bindings-map c.names undefined (λ id. refl) (λ id. refl) ids

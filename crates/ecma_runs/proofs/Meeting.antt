@@ -180,7 +180,7 @@ module _ (to : Id → Id) (options : Config) (m : Node) (may : MayMeet to m) whe
   abbrev change : Change
   change =
       images_named Fine (renamed to) names (known_of options m) may.free_texts the_same
-      (without_enums Fine (renamed to) names true None (known_of options m).enums options.ts_enum_is_mutable (lacking_enums options m may.no_enums))
+      (without_enums Fine (renamed to) names true (known_of options m).enums options.ts_enum_is_mutable (lacking_enums options m may.no_enums))
 
   opens : (ids inner : List Id) → catches_none to ids inner ≡ true → Opens names ids (outside_of ids inner) inner
   opens = opens_is to may.stands
@@ -255,7 +255,7 @@ module _ (to : Id → Id) (options : Config) (m : Node) (may : MayMeet to m) whe
   second_true a b h = (both_true a b h).1
 
   layer_kept : (k : Kind) (cs : List Node) → passes_by may.stands k ≡ true → AllNodes (Passes may.stands) cs → TextsStay to (at_keys k (map keys cs)) → meets_by to k (map seeker cs) ≡ true → not (is_enum k) ≡ true → KeptLayer change k (map meaning cs)
-  layer_kept (kind.Ident text ctxt optional) cs h p t b e = (h, may.this_stays (record { sym = text; ctxt = ctxt }) h)
+  layer_kept (kind.Ident text ctxt optional) cs h p t b e = (h, may.this_stays (record { sym = text; ctxt = ctxt }) h, λ has. refl)
   layer_kept kind.ExportDefaultExpr cs h p t b e = may.default_stays
   layer_kept kind.FnExpr cs h p t b e = may.default_stays
   layer_kept kind.ClassExpr cs h p t b e = may.default_stays
@@ -282,6 +282,7 @@ module _ (to : Id → Id) (options : Config) (m : Node) (may : MayMeet to m) whe
   layer_kept kind.SetterProp (key ∷ this_parameter ∷ parameter ∷ body ∷ []) h p t b e = still parameter body p.1.1.1.0 (second_true _ _ b)
   layer_kept (kind.Constructor accessibility is_optional) (key ∷ parameters ∷ body ∷ []) h p t b e = still parameters body p.1.1.0 b
   layer_kept (kind.TsEnumDecl false is_const) cs h p t b e = absurd (cc)
+  layer_kept kind.TsEnumMember cs h p t b e = absurd (cc)
   layer_kept _ cs h p t b e = tt
 
   kind_renamed : (k : Kind) → renamed_kind change k ≡ renamed_ident to k
@@ -337,7 +338,7 @@ module _ (to : Id → Id) (options : Config) (m : Node) (may : MayMeet to m) whe
   meeting_kept turns script =
       let t = both_true (catches_none to (ids_of (meaning m).locals) (sought_in m).sought) (catches_none to (meaning m).declared (outside_of (meaning m).declared (sought_in m).sought)) may.in_module in
       ap (λ n. observe n options (renamed to m) script) (sym (add-zero turns))
-      ∙ observe_unless change refl steps refl refl turns options m script (may.all_stand, may.key_texts, may.none_caught, may.no_enums) refl (renamed_none to options m may.no_enums)
+      ∙ observe_unless change refl steps refl refl refl turns options m script (may.all_stand, may.key_texts, may.none_caught, may.no_enums) refl (renamed_none to options m may.no_enums)
       (opens (ids_of (meaning m).locals) (sought_in m).sought t.0, record { free = free_told t.1 }, tt, kept_exports) tt tt (none_excused _)
 
 pub names_may_meet : NamesMayMeet

@@ -5,7 +5,7 @@ use Rattle.ecma_runs.specs.Values.{Value}
 use Rattle.ecma_tree.specs.declared.node.Node.{Node}
 use Rattle.ecma_runs.specs.State.{Id, same_id, Entered, Binding, Environment, Closure}
 use Rattle.ecma_runs.specs.Run.{changed_at}
-use Rattle.ecma_runs.specs.Environment.{ids_of, filled, binding_of, with_content, set_in, is_among, except}
+use Rattle.ecma_runs.specs.Environment.{ids_of, binding_of, with_content, set_in, is_among, except}
 use Rattle.ecma_runs.specs.Meaning.{Known}
 
 both : (a b : Bool) → a && b ≡ true → (a ≡ true) × (b ≡ true)
@@ -76,10 +76,6 @@ same_cond : {A : Type 0} (b : Bool) (a : A) → cond b a a ≡ a
 same_cond true a = refl
 same_cond false a = refl
 
-pub ids_of-filled : (bs : List Binding) → ids_of (map filled bs) ≡ ids_of bs
-ids_of-filled [] = refl
-ids_of-filled (b ∷ bs) = ap (λ z. b.id ∷ z) (ids_of-filled bs)
-
 module _ (names : Naming) where
   abbrev pub changed_ids : List Id → List Id
   changed_ids [] = []
@@ -127,15 +123,6 @@ module _ (names : Naming) where
   changed_bindings-append [] ys = refl
   changed_bindings-append (x ∷ xs) ys =
       ap (keep (names.kept x.id) (changed_binding x)) (changed_bindings-append xs ys) ∙ keep-append (names.kept x.id) (changed_binding x) (changed_bindings xs) (changed_bindings ys)
-
-  -- as variables of a module's record
-  filled_one : (k : Bool) (b : Binding) (bs : List Binding) → map filled (keep k (changed_binding b) bs) ≡ keep k (changed_binding (filled b)) (map filled bs)
-  filled_one true b bs = refl
-  filled_one false b bs = refl
-
-  pub filled-changed : (bs : List Binding) → map filled (changed_bindings bs) ≡ changed_bindings (map filled bs)
-  filled-changed [] = refl
-  filled-changed (b ∷ bs) = filled_one (names.kept b.id) b (changed_bindings bs) ∙ ap (keep (names.kept b.id) (changed_binding (filled b))) (filled-changed bs)
 
   -- variables that are made of names
   module _ (of : Id → Binding) (named : (id : Id) → (of id).id ≡ id) (commutes : (id : Id) → changed_binding (of id) ≡ of (names.to id)) where

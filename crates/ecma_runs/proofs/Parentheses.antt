@@ -40,6 +40,7 @@ ends_layer n kind.TsTypeParamInstantiation ns h = refl
 ends_layer n kind.TsQualifiedName (left ∷ right ∷ []) h = refl
 ends_layer n (kind.TsImportEqualsDecl false false) (name ∷ source ∷ []) h = refl
 ends_layer n (kind.TsImportEqualsDecl true false) (name ∷ source ∷ []) h = ends_either (meaning source.0).is_required _ _ refl refl
+ends_layer n kind.List ns h = refl
 ends_layer n (kind.TsEnumDecl false is_const) (name ∷ members ∷ []) h = refl
 ends_layer n kind.TsEnumMember (name ∷ init ∷ []) h = refl
 ends_layer n k ns h = ends_either (has_no_effect k (map meaning (map (λ e. e.0) ns))) (no_effect n) (role_by n k (map meaning (map (λ e. e.0) ns))) refl refl

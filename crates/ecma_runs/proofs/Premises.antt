@@ -12,7 +12,7 @@ use Rattle.ecma_runs.specs.Meaning.{Meaning}
 use Rattle.ecma_runs.proofs.Names.{Unless, changed_ids, changed_bindings}
 use Rattle.ecma_runs.proofs.Scopes.{Opens}
 use Rattle.ecma_runs.proofs.Exports.{KeepsDefault}
-use Rattle.ecma_runs.proofs.Alike.{Change, Standing, seeks}
+use Rattle.ecma_runs.proofs.Alike.{Change, SameFacts, Standing, seeks}
 use Rattle.ecma_runs.proofs.Meanings.{BodyOpens}
 use Rattle.ecma_runs.proofs.Environments.{KeepTexts}
 
@@ -32,10 +32,10 @@ module _ (c : Change) where
   StillClash parameters body = have_one_of (changed_ids c.names parameters.names) (changed_bindings c.names body.locals) ≡ have_one_of parameters.names body.locals
 
   -- names are kept, shorthands keep their texts, what uses host values and functions stands only where they may be used, what passes a function over where
-  -- the other run does, and an enum where enums may stand
+  -- the other run does, and an enum where enums may stand; names, members and parts of enums stand where the same is known of enums in the other run
   abbrev pub KeptLayer : Kind → List Meaning → Type 0
   KeptLayer (kind.Ident sym ctxt optional) ms =
-      (c.names.kept (record { sym = sym; ctxt = ctxt }) ≡ true) × (bytes_eq (c.names.to (record { sym = sym; ctxt = ctxt })).sym (codes "this") ≡ bytes_eq sym (codes "this"))
+      (c.names.kept (record { sym = sym; ctxt = ctxt }) ≡ true) × (bytes_eq (c.names.to (record { sym = sym; ctxt = ctxt })).sym (codes "this") ≡ bytes_eq sym (codes "this")) × SameFacts c
   KeptLayer kind.MemberExpr ms = c.uses ≡ true
   KeptLayer kind.SuperPropExpr ms = c.uses ≡ true
   KeptLayer kind.TsQualifiedName ms = c.uses ≡ true
@@ -56,7 +56,8 @@ module _ (c : Change) where
   KeptLayer kind.SetterProp (key ∷ this_parameter ∷ parameter ∷ body ∷ []) = StillClash parameter body
   KeptLayer (kind.Constructor accessibility is_optional) (key ∷ parameters ∷ body ∷ []) = StillClash parameters body
   KeptLayer kind.TsModuleBlock ms = PassesToo c.passed ms
-  KeptLayer (kind.TsEnumDecl false is_const) ms = c.enums.has ≡ true
+  KeptLayer (kind.TsEnumDecl false is_const) ms = (c.enums.has ≡ true) × SameFacts c
+  KeptLayer kind.TsEnumMember ms = SameFacts c
   KeptLayer kind.ExportDefaultExpr ms = KeepsDefault c.names
   KeptLayer kind.FnExpr ms = KeepsDefault c.names
   KeptLayer kind.ClassExpr ms = KeepsDefault c.names

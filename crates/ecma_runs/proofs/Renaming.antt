@@ -102,7 +102,7 @@ module _ (to : Id → Id) (options : Config) (m : Node) (renaming : IsRenaming t
   abbrev renaming_change : Change
   renaming_change =
       images_named Fine (renamed to) new_names (known_of options m) renaming.free_texts the_same
-      (without_enums Fine (renamed to) new_names true None (known_of options m).enums options.ts_enum_is_mutable (lacking_enums options m renaming.no_enums))
+      (without_enums Fine (renamed to) new_names true (known_of options m).enums options.ts_enum_is_mutable (lacking_enums options m renaming.no_enums))
 
   three_all : (cs : List Node) → AllNodes (Passes renaming.stands) cs → AllNodes (λ n. TextsStay to (keys_in n)) cs → AllNodes Lacks cs → AllNodes Fine cs
   three_all [] p q r = tt
@@ -127,7 +127,7 @@ module _ (to : Id → Id) (options : Config) (m : Node) (renaming : IsRenaming t
   listed n h = subst (TextsStay to) (sym (here_is n)) h
 
   layer_kept : (k : Kind) (cs : List Node) → passes_by renaming.stands k ≡ true → AllNodes (Passes renaming.stands) cs → TextsStay to (at_keys k (map keys cs)) → not (is_enum k) ≡ true → KeptLayer renaming_change k (map meaning cs)
-  layer_kept (kind.Ident text ctxt optional) cs h p t e = (h, renaming.this_stays (record { sym = text; ctxt = ctxt }) h)
+  layer_kept (kind.Ident text ctxt optional) cs h p t e = (h, renaming.this_stays (record { sym = text; ctxt = ctxt }) h, λ has. refl)
   layer_kept kind.ExportDefaultExpr cs h p t e = renaming.default_stays
   layer_kept kind.FnExpr cs h p t e = renaming.default_stays
   layer_kept kind.ClassExpr cs h p t e = renaming.default_stays
@@ -154,6 +154,7 @@ module _ (to : Id → Id) (options : Config) (m : Node) (renaming : IsRenaming t
   layer_kept kind.SetterProp (key ∷ this_parameter ∷ parameter ∷ body ∷ []) h p t e = still parameter body p.1.1.1.0
   layer_kept (kind.Constructor accessibility is_optional) (key ∷ parameters ∷ body ∷ []) h p t e = still parameters body p.1.1.0
   layer_kept (kind.TsEnumDecl false is_const) cs h p t e = absurd (cc)
+  layer_kept kind.TsEnumMember cs h p t e = absurd (cc)
   layer_kept _ cs h p t e = tt
 
   renamed_layer : (x : Node-F Node) → meaning (renamed to (roll-Node x)) ≡ meaning_by (renamed to (roll-Node x)) (renamed_kind renaming_change x.kind) (map meaning (map (renamed to) x.children))
@@ -172,7 +173,7 @@ module _ (to : Id → Id) (options : Config) (m : Node) (renaming : IsRenaming t
 
   pub renamed_kept : (turns : ℕ) (script : Script) → observe turns options (renamed to m) script ≡ observe turns options m script
   renamed_kept turns script =
-      ap (λ n. observe n options (renamed to m) script) (sym (add-zero turns)) ∙ observe_unless renaming_change refl renaming_steps refl refl turns options m script (renaming.all_stand, renaming.key_texts, renaming.no_enums) refl (renamed_none to options m renaming.no_enums)
+      ap (λ n. observe n options (renamed to m) script) (sym (add-zero turns)) ∙ observe_unless renaming_change refl renaming_steps refl refl refl turns options m script (renaming.all_stand, renaming.key_texts, renaming.no_enums) refl (renamed_none to options m renaming.no_enums)
       (tt, record { free = tt }, tt, keeps_plain new_names refl (ids_of (meaning m).locals) (exports_in m) ((declares renaming.stands m renaming.all_stand).exports None renaming.default_stays.0) renaming.export_texts) tt tt (none_excused _)
 
 pub names_do_not_matter : NamesDoNotMatter

@@ -14,11 +14,12 @@ use Rattle.ecma_runs.specs.Observation.{known_of, exports_in, run_module, start}
 use Rattle.ecma_runs.specs.Uses.{uses_nothing_by, uses_nothing_step, uses_nothing}
 use Rattle.ecma_runs.specs.Laws.{state_behind, DeclarationsAloneHaveNoEvents}
 use Rattle.ecma_runs.proofs.Layer.{meaning-roll}
+use Rattle.ecma_runs.proofs.Names.{changed_known}
 use Rattle.ecma_runs.proofs.Alike.{Change, EnumsStand, Follows}
 use Rattle.ecma_runs.specs.Enums.{no_enums, is_enum}
 use Rattle.ecma_runs.proofs.EnumTrees.{Lacks, lacks_layer, lacking_enums}
 use Rattle.ecma_runs.proofs.Premises.{renamed_kind, KeptLayer}
-use Rattle.ecma_runs.proofs.Kept.{AllNodes, StepsAlike, layer_same, run_module_alike}
+use Rattle.ecma_runs.proofs.Kept.{AllNodes, StepsAlike, all_kept, runs_kept, layer_same, run_module_alike}
 use Rattle.ecma_runs.proofs.Layers.{exactly, without_enums, same_names, exports_kept, always, nothing_excused, the_same, same_kind, kept_layer, itself_layers, texts_stay}
 use Rattle.ecma_runs.proofs.Growing.{observed_events}
 
@@ -45,7 +46,9 @@ quiet known may_change none = record {
   uses = false;
   said = λ events. events ≡ [];
   adds = λ u events event h. absurd (none_used u);
-  enums = without_enums (λ n. uses_nothing n ≡ true) (λ n. n) same_names false None known.enums may_change none;
+  there = changed_known same_names known;
+  declares = λ id kept. refl;
+  enums = without_enums (λ n. uses_nothing n ≡ true) (λ n. n) same_names false known.enums may_change none;
 }
 
 both_true : (a b : Bool) → a && b ≡ true → (a ≡ true) × (b ≡ true)
@@ -90,6 +93,7 @@ layer_unrequired n kind.TsTypeParamInstantiation ms none h = refl
 layer_unrequired n kind.TsQualifiedName (left ∷ right ∷ []) none h = refl
 layer_unrequired n (kind.TsImportEqualsDecl false false) (name ∷ source ∷ []) none h = refl
 layer_unrequired n (kind.TsImportEqualsDecl true false) (name ∷ source ∷ []) none h = neither_required source.is_required _ _ refl refl
+layer_unrequired n kind.List ms none h = refl
 layer_unrequired n (kind.TsEnumDecl false is_const) (name ∷ members ∷ []) none h = refl
 layer_unrequired n kind.TsEnumMember (name ∷ init ∷ []) none h = refl
 layer_unrequired n k ms none h = neither_required (has_no_effect k ms) (no_effect n) (role_by n k ms) refl (unrequired_kind k h)
@@ -133,7 +137,7 @@ module _ (known : Known) (may_change : Bool) (none : known.enums ≡ no_enums ma
   abbrev change : Change
   change = quiet known may_change none
 
-  abbrev anything : EnumsStand known.enums same_names true None (λ n. n) (λ n. Unit {0})
+  abbrev anything : EnumsStand known.enums known.enums same_names true (λ n. n) (λ n. Unit {0})
   anything = exactly (λ n. Unit {0}) (λ n. n) known (λ n. refl)
 
   quiet_layer : (k : Kind) (ms : List Meaning) → NoneRequired ms → uses_nothing_by k ≡ true → KeptLayer change k ms
@@ -148,6 +152,7 @@ module _ (known : Known) (may_change : Bool) (none : known.enums ≡ no_enums ma
   quiet_layer kind.TsExternalModuleRef ms none h = absurd (cc)
   quiet_layer kind.TsExportAssignment ms none h = absurd (cc)
   quiet_layer (kind.TsEnumDecl false is_const) ms none h = absurd (cc)
+  quiet_layer kind.TsEnumMember ms none h = absurd (cc)
   quiet_layer (kind.TsImportEqualsDecl true false) (name ∷ source ∷ []) none h = (λ required. absurd (true-false required none.1.0), texts_stay name.shorthands)
   quiet_layer k ms none h = kept_layer (λ n. Unit {0}) (λ n. n) known the_same anything k ms (λ e. refl)
 
@@ -175,4 +180,4 @@ declarations_alone_have_no_events turns options m script h =
     let none : known.enums ≡ no_enums options.ts_enum_is_mutable = lacking_enums options m (quiet_lacks m h) in
     let c : Change = quiet known options.ts_enum_is_mutable none in
     observed_events (run_module known m quiet_script (start turns quiet_script))
-    ∙ no_events known options.ts_enum_is_mutable none _ _ ((run_module_alike c (quiet_steps known options.ts_enum_is_mutable none) quiet_script (λ u. absurd (none_used u)) m h tt (record { free = tt }) (exports_kept (ids_of (meaning m).locals) (exports_in m)) (inr refl)).at (start turns quiet_script) ((tt, tt), tt, refl))
+    ∙ no_events known options.ts_enum_is_mutable none _ _ ((run_module_alike c (all_kept c (quiet_steps known options.ts_enum_is_mutable none)) quiet_script (λ u. absurd (none_used u)) m (runs_kept c (quiet_steps known options.ts_enum_is_mutable none) m h) tt (record { free = tt }) (exports_kept (ids_of (meaning m).locals) (exports_in m)) (inr refl)).at (start turns quiet_script) ((tt, tt), tt, refl))

@@ -1,16 +1,17 @@
 -- Where each identifier of a tree passes a test, so do the names that the tree binds and the variables that its scopes have.
-use Rattle.std.proofs.Common.{◌≡◌, ℕ, ◌++◌, ◌&&◌, refl, sym, ap, ◌∙◌, subst, List, [], ◌∷◌, map, Option, Some, None, Bool, true, false, cond, codes}
+use Rattle.std.proofs.Common.{◌≡◌, ℕ, ◌++◌, ◌&&◌, refl, sym, ap, ap₂, ◌∙◌, subst, List, [], ◌∷◌, map, Option, Some, None, Bool, true, false, cond, codes}
 use Rattle.std.specs.List.{list_all}
 use Rattle.ecma_kind.specs.declared.kind.Kind.{Kind}
 use Rattle.ecma_kind.specs.declared.kind.Kind.TheVariants as kind
 use Rattle.ecma_kind.specs.declared.operators.AssignOp.TheVariants.{Assign}
+use Rattle.ecma_kind.specs.declared.operators.VarDeclKind.{VarDeclKind}
 use Rattle.ecma_kind.specs.declared.operators.VarDeclKind.TheVariants.{Var, Let, Const}
 use Rattle.ecma_tree.specs.declared.node.Node.{Node, Node-F, fold-roll-Node, ind-Node, roll-Node}
 use Rattle.ecma_runs.specs.State.{Id, default_name, Binding}
-use Rattle.ecma_runs.specs.Environment.{empty, undefined, unfilled, import_of}
+use Rattle.ecma_runs.specs.Environment.{empty, undefined, import_of, is_among}
 use Rattle.ecma_runs.specs.Meaning.{Meaning}
-use Rattle.ecma_runs.specs.Declarations.{all_names, names_of, name_or_default, default_names_of, all_imported, imported_as, imported_of, imported_from, all_lexicals, lexicals_of, all_vars, vars_of, locals_of, has_no_effect, all_exports, exported_from, exports_of}
-use Rattle.ecma_runs.specs.Evaluation.{role_by, no_effect, free_meaning, text_key, constant_meaning, set_export, meaning_by, meaning}
+use Rattle.ecma_runs.specs.Declarations.{all_names, names_of, name_or_default, default_names_of, all_imported, imported_as, imported_of, imported_from, all_lexicals, lexicals_of, all_vars, vars_of, locals_of, has_no_effect, all_exports, exported_from, exports_of, part_names_of}
+use Rattle.ecma_runs.specs.Evaluation.{role_by, no_effect, free_meaning, text_key, constant_meaning, set_export, variable_declared, exported_if, variables_for, with_variables, list_meaning, meaning_by, meaning}
 use Rattle.ecma_runs.specs.Names.{passes_by, passes_here, ids_pass}
 use Rattle.ecma_runs.proofs.Layer.{meaning-roll}
 use Rattle.ecma_runs.specs.Environment.{ids_of}
@@ -66,10 +67,6 @@ module _ (test : Id → Bool) where
   undefineds_pass [] p = tt
   undefineds_pass (id ∷ ids) p = (p.0, undefineds_pass ids p.1)
 
-  unfilleds_pass : (ids : List Id) → NamesPass ids → BindingsPass (map unfilled ids)
-  unfilleds_pass [] p = tt
-  unfilleds_pass (id ∷ ids) p = (p.0, unfilleds_pass ids p.1)
-
   imports_pass : (source name : List ℕ) (ids : List Id) → NamesPass ids → BindingsPass (map (import_of source name) ids)
   imports_pass source name [] p = tt
   imports_pass source name (id ∷ ids) p = (p.0, imports_pass source name ids p.1)
@@ -84,6 +81,7 @@ module _ (test : Id → Bool) where
     pub locals : Default → BindingsPass m.locals
     pub imported : (source : List ℕ) → BindingsPass (m.imported source)
     pub exports : (source : Option (List ℕ)) → Default → LocalsPass test (m.exports source)
+    pub part_names : NamesPass m.part_names
 
   abbrev Part : Type 0
   Part = (m : Meaning) × Declares m
@@ -157,7 +155,6 @@ module _ (test : Id → Bool) where
   lexicals_pass (kind.FnDecl false) (name ∷ function ∷ []) default = empties_pass false name.0.names name.1.names
   lexicals_pass (kind.ClassDecl false) (name ∷ class ∷ []) default = empties_pass false name.0.names name.1.names
   lexicals_pass kind.SwitchCase (test ∷ statements ∷ []) default = statements.1.lexicals default
-  lexicals_pass (kind.TsEnumDecl false is_const) (name ∷ members ∷ []) default = unfilleds_pass name.0.names name.1.names
   lexicals_pass kind.ExportDecl (declaration ∷ []) default = declaration.1.lexicals default
   lexicals_pass kind.ExportDefaultExpr (e ∷ []) default = (default, tt)
   lexicals_pass kind.ExportDefaultDecl (declaration ∷ []) default = empties_pass false declaration.0.default_names (declaration.1.default_names default)
@@ -182,7 +179,8 @@ module _ (test : Id → Bool) where
   vars_pass _ ps = tt
 
   locals_pass : (k : Kind) (ps : List Part) → Default → BindingsPass (locals_of k (parts ps))
-  locals_pass (kind.Module shebang) (body ∷ []) default = bindings_append body.0.vars body.0.lexicals body.1.vars (body.1.lexicals default)
+  locals_pass (kind.Module shebang) (body ∷ []) default = body.1.locals default
+  locals_pass kind.List ps default = bindings_append (all_vars (parts ps)) (all_lexicals (parts ps)) (all_vars_pass ps) (all_lexicals_pass ps default)
   locals_pass kind.BlockStmt (statements ∷ []) default = bindings_append statements.0.vars statements.0.lexicals statements.1.vars (statements.1.lexicals default)
   locals_pass _ ps default = tt
 
@@ -232,8 +230,13 @@ module _ (test : Id → Bool) where
   exports_pass (kind.ExportAll false) (from ∷ attributes ∷ []) source default = tt
   exports_pass _ ps source default = tt
 
+  part_names_pass : (k : Kind) (ps : List Part) → NamesPass (part_names_of k (parts ps))
+  part_names_pass (kind.TsEnumDecl false is_const) (name ∷ members ∷ []) = name.1.names
+  part_names_pass kind.ExportDecl (declaration ∷ []) = declaration.1.part_names
+  part_names_pass _ ps = tt
+
   role_declares : (n : Node) (k : Kind) (ps : List Part) → passes_by test k ≡ true → Declares (role_by n k (parts ps))
-  role_declares n k ps h = record { names = names_pass k ps h; default_names = default_names_pass k ps; lexicals = lexicals_pass k ps; vars = vars_pass k ps; locals = locals_pass k ps; imported = imported_pass k ps; exports = exports_pass k ps }
+  role_declares n k ps h = record { names = names_pass k ps h; default_names = default_names_pass k ps; lexicals = lexicals_pass k ps; vars = vars_pass k ps; locals = locals_pass k ps; imported = imported_pass k ps; exports = exports_pass k ps; part_names = part_names_pass k ps }
 
   abbrev role_part : Node → (k : Kind) (ps : List Part) → passes_by test k ≡ true → Part
   role_part n k ps h = (role_by n k (parts ps), role_declares n k ps h)
@@ -246,16 +249,74 @@ module _ (test : Id → Bool) where
 
   abbrev export_part : Node → Part → Part → Part
   export_part n name source =
-      let free : Part = (free_meaning n (codes "exports"), record { names = tt; default_names = λ d. tt; lexicals = λ d. tt; vars = tt; locals = λ d. tt; imported = λ from. tt; exports = λ from d. tt }) in
-      let key : Part = (text_key n name.0, record { names = tt; default_names = λ d. tt; lexicals = λ d. tt; vars = tt; locals = λ d. tt; imported = λ from. tt; exports = λ from d. tt }) in
+      let free : Part = (free_meaning n (codes "exports"), record { names = tt; default_names = λ d. tt; lexicals = λ d. tt; vars = tt; locals = λ d. tt; imported = λ from. tt; exports = λ from d. tt; part_names = tt }) in
+      let key : Part = (text_key n name.0, record { names = tt; default_names = λ d. tt; lexicals = λ d. tt; vars = tt; locals = λ d. tt; imported = λ from. tt; exports = λ from d. tt; part_names = tt }) in
       role_part n (kind.AssignExpr Assign) (role_part n kind.MemberExpr (free ∷ key ∷ []) refl ∷ source ∷ []) refl
 
   either_declares : (b : Bool) (m m' : Meaning) → Declares m → Declares m' → Declares (cond b m m')
   either_declares true m m' hm hk = hm
   either_declares false m m' hm hk = hk
 
+  -- a list with the variables of its enums
+
+  module _ (n : Node) (word : VarDeclKind) where
+    abbrev variable_part : (id : Id) → test id ≡ true → Part
+    variable_part id h =
+        let absent : Part = role_part n kind.Absent [] refl in
+        let binding : Part = role_part n kind.BindingIdent (role_part n (kind.Ident id.sym id.ctxt false) [] h ∷ absent ∷ []) refl in
+        role_part n (kind.VarDecl word false) (role_part n kind.List (role_part n (kind.VarDeclarator false) (binding ∷ absent ∷ []) refl ∷ []) refl ∷ []) refl
+
+    exported_declares : (e : Bool) (p : Part) → Declares (exported_if n e p.0)
+    exported_declares true p = role_declares n kind.ExportDecl (p ∷ []) refl
+    exported_declares false p = p.1
+
+    abbrev exported_part : Bool → Part → Part
+    exported_part e p = (exported_if n e p.0, exported_declares e p)
+
+    abbrev variable_parts : Bool → List Id → (ids : List Id) → NamesPass ids → List Part
+    variable_parts e there [] p = []
+    variable_parts e there (id ∷ ids) p = cond (is_among id there) (variable_parts e there ids p.1) (exported_part e (variable_part id p.0) ∷ variable_parts e there ids p.1)
+
+    chosen_parts : (b : Bool) (p : Part) (ps : List Part) → parts (cond b ps (p ∷ ps)) ≡ cond b (parts ps) (p.0 ∷ parts ps)
+    chosen_parts true p ps = refl
+    chosen_parts false p ps = refl
+
+    parts_variables : (e : Bool) (there ids : List Id) (p : NamesPass ids) → parts (variable_parts e there ids p) ≡ variables_for n word e there ids
+    parts_variables e there [] p = refl
+    parts_variables e there (id ∷ ids) p =
+        chosen_parts (is_among id there) (exported_part e (variable_part id p.0)) (variable_parts e there ids p.1)
+        ∙ ap (λ l. cond (is_among id there) l (exported_if n e (variable_declared n word id) ∷ l)) (parts_variables e there ids p.1)
+
+    abbrev with_parts : List Id → List Part → List Part
+    with_parts there [] = []
+    with_parts there (p ∷ ps) = variable_parts p.0.is_export there p.0.part_names p.1.part_names ++ (p ∷ with_parts (there ++ p.0.merged_names) ps)
+
+    parts_append : (ps qs : List Part) → parts (ps ++ qs) ≡ parts ps ++ parts qs
+    parts_append [] qs = refl
+    parts_append (p ∷ ps) qs = ap (λ l. p.0 ∷ l) (parts_append ps qs)
+
+    parts_with : (there : List Id) (ps : List Part) → parts (with_parts there ps) ≡ with_variables n word there (parts ps)
+    parts_with there [] = refl
+    parts_with there (p ∷ ps) =
+        parts_append (variable_parts p.0.is_export there p.0.part_names p.1.part_names) (p ∷ with_parts (there ++ p.0.merged_names) ps)
+        ∙ ap₂ (λ vars rest. vars ++ (p.0 ∷ rest)) (parts_variables p.0.is_export there p.0.part_names p.1.part_names) (parts_with (there ++ p.0.merged_names) ps)
+
+  list_declares : (n : Node) (ps : List Part) → Declares (list_meaning n (parts ps))
+  list_declares n ps =
+      let d = role_declares n kind.List ps refl in
+      record {
+        names = d.names;
+        default_names = d.default_names;
+        lexicals = λ default. subst (λ ms. BindingsPass (all_lexicals ms)) (parts_with n Let [] ps) (all_lexicals_pass (with_parts n Let [] ps) default);
+        vars = d.vars;
+        locals = λ default. subst (λ ms. BindingsPass (locals_of kind.List ms)) (parts_with n Var [] ps) (locals_pass kind.List (with_parts n Var [] ps) default);
+        imported = d.imported;
+        exports = λ source default. subst (λ ms. LocalsPass test (all_exports ms source)) (parts_with n Var [] ps) (all_exports_pass (with_parts n Var [] ps) source default);
+        part_names = d.part_names;
+      }
+
   layer_declares : (n : Node) (k : Kind) (ps : List Part) → passes_by test k ≡ true → Declares (meaning_by n k (parts ps))
-  layer_declares n kind.ParenExpr (e ∷ []) h = record { names = e.1.names; default_names = e.1.default_names; lexicals = e.1.lexicals; vars = e.1.vars; locals = e.1.locals; imported = e.1.imported; exports = e.1.exports }
+  layer_declares n kind.ParenExpr (e ∷ []) h = record { names = e.1.names; default_names = e.1.default_names; lexicals = e.1.lexicals; vars = e.1.vars; locals = e.1.locals; imported = e.1.imported; exports = e.1.exports; part_names = e.1.part_names }
   layer_declares n kind.TsAsExpr (e ∷ type ∷ []) h = e.1
   layer_declares n kind.TsTypeAssertion (e ∷ type ∷ []) h = e.1
   layer_declares n kind.TsConstAssertion (e ∷ []) h = e.1
@@ -270,12 +331,13 @@ module _ (test : Id → Bool) where
   layer_declares n (kind.TsImportEqualsDecl true false) (name ∷ source ∷ []) h =
       either_declares source.0.is_required (constant_meaning n name.0 (set_export n name.0 source.0)) (role_by n kind.ExportDecl (constant_meaning n name.0 source.0 ∷ []))
       (constant_declares n name (export_part n name source)) (role_declares n kind.ExportDecl ((constant_meaning n name.0 source.0, constant_declares n name source) ∷ []) refl)
+  layer_declares n kind.List ps h = list_declares n ps
   layer_declares n (kind.TsEnumDecl false is_const) (name ∷ members ∷ []) h =
       let d = role_declares n (kind.TsEnumDecl false is_const) (name ∷ members ∷ []) h in
-      record { names = d.names; default_names = d.default_names; lexicals = d.lexicals; vars = d.vars; locals = d.locals; imported = d.imported; exports = d.exports }
+      record { names = d.names; default_names = d.default_names; lexicals = d.lexicals; vars = d.vars; locals = d.locals; imported = d.imported; exports = d.exports; part_names = d.part_names }
   layer_declares n kind.TsEnumMember (name ∷ init ∷ []) h =
       let d = role_declares n kind.TsEnumMember (name ∷ init ∷ []) h in
-      record { names = d.names; default_names = d.default_names; lexicals = d.lexicals; vars = d.vars; locals = d.locals; imported = d.imported; exports = d.exports }
+      record { names = d.names; default_names = d.default_names; lexicals = d.lexicals; vars = d.vars; locals = d.locals; imported = d.imported; exports = d.exports; part_names = d.part_names }
   layer_declares n k ps h = either_declares (has_no_effect k (parts ps)) (no_effect n) (role_by n k (parts ps)) (role_declares n (kind.TsTypeAliasDecl false) [] refl) (role_declares n k ps h)
 
   -- a tree whose identifiers pass

@@ -12,7 +12,7 @@ use Rattle.ecma_runs.proofs.Exports.{default_ids}
 use Rattle.ecma_runs.specs.Run.{◌>>=◌, give, when, loop, TurnsSpent, Run}
 use Rattle.ecma_runs.specs.Operators.{strictly_equal}
 use Rattle.ecma_runs.specs.Environment.{ToFree, ToMember, copy_environment, empty, initialize}
-use Rattle.ecma_runs.specs.Statements.{rounds, while, do_while, for_rounds, for_loop, block, all_completions, completion_of, effect_of, all_varied, varied_of, all_hoisted, hoisted_of, all_last, last_of, caught_of, all_switched, switched_of, is_case_of, selected_of, all_members, member_of}
+use Rattle.ecma_runs.specs.Statements.{rounds, while, do_while, for_rounds, for_loop, block, all_completions, completion_of, effect_of, all_varied, varied_of, all_hoisted, hoisted_of, module_body_of, all_last, last_of, caught_of, all_switched, switched_of, is_case_of, selected_of, all_members, member_of}
 use Rattle.ecma_runs.specs.State.{Id}
 use Rattle.ecma_runs.specs.Environment.{ids_of}
 use Rattle.ecma_runs.specs.Sought.{meanings, all_sought, sought_of}
@@ -103,7 +103,7 @@ module _ (c : Change) {a : List Entered} (w : World (at c a)) where
   pub completion_alike : (k : Kind) (ps : List (Both c)) → KeptLayer c k (firsts c ps) → Placed c w.scope k (seekers c ps) → Alike d (completion_of k (firsts c ps) (first d w)) (completion_of (renamed_kind c k) (seconds c ps) (second d w))
   completion_alike kind.Absent ps kept h = give_alike d tt
   completion_alike kind.List ps kept h = all_stay c (λ ls ms'. Standing c w.scope (all_sought ls) → Alike d (all_completions (meanings ls) (first d w)) (all_completions ms' (second d w))) (all_completions_alike c w) ps h.0
-  completion_alike (kind.Module shebang) (body ∷ []) kept h = bind_alike d (body.2.completion w (one c.names _ _ h.0)) (λ _. body.2.last w (one c.names _ _ h.0))
+  completion_alike (kind.Module shebang) (body ∷ []) kept h = bind_alike d (body.2.module_body w (one c.names _ _ h.0)) (λ _. body.2.last w (one c.names _ _ h.0))
   completion_alike kind.ExprStmt (e ∷ []) kept h = bind_alike d (e.2.value w (one c.names _ _ h.0)) (λ _. give_alike d tt)
   completion_alike (kind.VarDecl Var false) (declarators ∷ []) kept h = declarators.2.varied w (one c.names _ _ h.0)
   completion_alike (kind.VarDecl Let false) (declarators ∷ []) kept h = declarators.2.completion w (one c.names _ _ h.0)
@@ -175,6 +175,10 @@ module _ (c : Change) {a : List Entered} (w : World (at c a)) where
   hoisted_alike (kind.FnDecl false) (name ∷ function ∷ []) s = rw (name.2.names) (bind_alike d (function.2.made Plain None w (rest c.names (name.0.meaning.names) _ s)) (λ f. initialize_alike d w.scope w.there name.0.meaning.names (one c.names (name.0.meaning.names) _ s) (Own f)))
   hoisted_alike kind.SwitchCase (test ∷ statements ∷ []) s = statements.2.hoisted w (two c.names _ _ _ s)
   hoisted_alike _ ps s = give_alike d tt
+
+  pub module_body_alike : (k : Kind) (ps : List (Both c)) → Standing c w.scope (sought_of k (seekers c ps)) → Alike d (module_body_of k (firsts c ps) (first d w)) (module_body_of (renamed_kind c k) (seconds c ps) (second d w))
+  module_body_alike kind.List ps s = all_stay c (λ ls ms'. Standing c w.scope (all_sought ls) → Alike d (all_completions (meanings ls) (first d w)) (all_completions ms' (second d w))) (all_completions_alike c w) ps s
+  module_body_alike _ ps s = outside_alike d
 
   pub last_alike : (k : Kind) (ps : List (Both c)) → KeptLayer c k (firsts c ps) → Standing c w.scope (sought_of k (seekers c ps)) → Alike d (last_of k (firsts c ps) (first d w)) (last_of (renamed_kind c k) (seconds c ps) (second d w))
   last_alike kind.List ps kept s = all_stay c (λ ls ms'. Standing c w.scope (all_sought ls) → Alike d (all_last (meanings ls) (first d w)) (all_last ms' (second d w))) (all_last_alike c w) ps s

@@ -6,10 +6,10 @@ use Rattle.ecma_runs.specs.Run.{TurnsSpent, Outcome, Done, Thrown, Returned, Bro
 use Rattle.ecma_runs.specs.Host.{Provided}
 use Rattle.ecma_runs.specs.Meaning.{Invocation}
 use Rattle.ecma_runs.specs.Evaluation.{apply_at, invoke}
-use Rattle.ecma_runs.proofs.Names.{unless_map, changed_known}
+use Rattle.ecma_runs.proofs.Names.{unless_map}
 use Rattle.ecma_runs.proofs.Alike.{Change, changed, Sound, spends_none, Follows}
 use Rattle.ecma_runs.proofs.Meanings.{at}
-use Rattle.ecma_runs.proofs.Kept.{StepsAlike, InvokesAlike, apply_at_alike}
+use Rattle.ecma_runs.proofs.Kept.{AllKept, StepsAlike, InvokesAlike, all_kept, apply_at_alike}
 use Rattle.ecma_runs.proofs.Depth.{invoke-apply}
 
 module _ (c : Change) where
@@ -25,12 +25,12 @@ module _ (c : Change) where
   weaker a k to P (Continued s) r' e = let h : s.turns ≤ k = e.1.1 in (e.0, (e.1.0, omega arith, e.1.2))
   weaker a k to P (Ended why s) r' e = e
 
-  module _ (steps : (k : ℕ) → StepsAlike (in_turns k)) (u : c.uses ≡ true) (provided : Provided) where
+  module _ (all : (k : ℕ) → AllKept (in_turns k)) (u : c.uses ≡ true) (provided : Provided) where
     abbrev calls : ℕ → Invocation → List Value → Run Value
     calls = invoke provided c.known
 
     abbrev calls' : ℕ → Invocation → List Value → Run Value
-    calls' = invoke provided (changed_known c.names c.known)
+    calls' = invoke provided c.there
 
     module _ (a : List Entered) (place : ℕ) (how : Invocation) (arguments : List Value) where
       -- the call without its turn
@@ -38,7 +38,7 @@ module _ (c : Change) where
       applied = apply_at calls provided c.known place how arguments
 
       abbrev applied' : Run Value
-      applied' = apply_at calls' provided (changed_known c.names c.known) place how arguments
+      applied' = apply_at calls' provided c.there place how arguments
 
       -- the call where so many turns are left, of k at most
       abbrev CallFollows : ℕ → State → ℕ → Type 0
@@ -51,18 +51,21 @@ module _ (c : Change) where
       some_left k h s fine said zero le = none_left (suc k) s said
       some_left k h s fine said (suc left) le =
           rw (suc-add left c.more) (weaker a k (λ z. z) (λ z. Unit {0}) _ _
-          ((apply_at_alike (in_turns k) (steps k) provided u calls calls' h (λ some. refl) a place how arguments).at (record s { turns = left }) (fine, omega arith, said)))
+          ((apply_at_alike (in_turns k) (all k) provided u calls calls' h (λ some. refl) a place how arguments).at (record s { turns = left }) (fine, omega arith, said)))
 
       no_more : (s : State) → c.said s.events → (left : ℕ) → left ≤ 0 → CallFollows 0 s left
       no_more s said zero le = none_left 0 s said
       no_more s said (suc left) le = absurd (omega arith)
 
-    pub calls_in : (k : ℕ) → InvokesAlike (in_turns k) calls calls'
-    calls_in zero a place how arguments = record {
+    pub calls_kept_in : (k : ℕ) → InvokesAlike (in_turns k) calls calls'
+    calls_kept_in zero a place how arguments = record {
       at = λ s g. subst₂ (λ m m'. Follows (at (in_turns 0) a) (λ z. z) (λ z. Unit {0}) (m s) (m' (changed (in_turns 0) s))) (sym (invoke-apply provided c.known place how arguments))
-          (sym (invoke-apply provided (changed_known c.names c.known) place how arguments)) (no_more a place how arguments s g.2 s.turns g.1);
+          (sym (invoke-apply provided c.there place how arguments)) (no_more a place how arguments s g.2 s.turns g.1);
     }
-    calls_in (suc k) a place how arguments = record {
+    calls_kept_in (suc k) a place how arguments = record {
       at = λ s g. subst₂ (λ m m'. Follows (at (in_turns (suc k)) a) (λ z. z) (λ z. Unit {0}) (m s) (m' (changed (in_turns (suc k)) s))) (sym (invoke-apply provided c.known place how arguments))
-          (sym (invoke-apply provided (changed_known c.names c.known) place how arguments)) (some_left a place how arguments k (calls_in k) s g.0 g.2 s.turns g.1);
+          (sym (invoke-apply provided c.there place how arguments)) (some_left a place how arguments k (calls_kept_in k) s g.0 g.2 s.turns g.1);
     }
+
+  pub calls_in : (steps : (k : ℕ) → StepsAlike (in_turns k)) (u : c.uses ≡ true) (provided : Provided) (k : ℕ) → InvokesAlike (in_turns k) (invoke provided c.known) (invoke provided c.there)
+  calls_in steps = calls_kept_in (λ k. all_kept (in_turns k) (steps k))

@@ -63,6 +63,13 @@ module _ (c : Change) (stay : Node → Bool) (silent : (n : Node) → Kept c n �
       subst (λ l. Same c (meaning_by n kind.List l) (meaning_by n' kind.List (map meaning (filter stay (map c.node (map (λ e. e.0) ns)))))) (before_items ns fine)
       (subst (λ l. Same c (meaning_by n kind.List (before c (items ns fine))) (meaning_by n' kind.List l)) (behind_items ns fine) (plain_list c plain n n' (items ns fine)))
 
+no_parts : (c : Change) {n' : Node} {m : Meaning} → Same c m (meaning_by n' (kind.TsTypeAliasDecl false) []) → m.part_names ≡ []
+no_parts c {n'} {m} same = by c.enums.has refl
+  where
+    by : (b : Bool) → c.enums.has ≡ b → m.part_names ≡ []
+    by true has = sym (same.part_names has)
+    by false lacks = (same.no_part lacks).0
+
 -- what does as an alias does nothing
 pub alias_silent : (c : Change) (n' : Node) (m : Meaning) → KeepTexts c m.shorthands → Same c m (meaning_by n' (kind.TsTypeAliasDecl false) []) → Silent c m
 alias_silent c n' m texts same = record {
@@ -89,6 +96,8 @@ alias_silent c n' m texts same = record {
   last_declared = sym same.last_declared;
   imported = λ source. sym (same.imported source);
   member_texts = λ has. sym (same.member_texts has);
+  part_names = no_parts c same;
+  merged_names = λ has. sym (same.merged_names has);
   exports = λ source. sym (same.exports source);
   cooked = sym same.cooked;
   is_plain = sym same.is_plain;
@@ -176,5 +185,5 @@ module _ (known : Known) where
 pub types_do_not_matter : TypesDoNotMatter
 types_do_not_matter turns options m script =
     ap (λ n. observe n options (without_types m) script) (sym (add-zero turns))
-    ∙ observe_unless (untyped (known_of options m)) refl (types_steps (known_of options m)) refl refl turns options m script tt refl
+    ∙ observe_unless (untyped (known_of options m)) refl (types_steps (known_of options m)) refl refl refl turns options m script tt refl
     (same_enums without_types options m (types_bare m) (kept (untyped (known_of options m)) (types_steps (known_of options m)) m tt)) plain_starts tt tt (none_excused _)

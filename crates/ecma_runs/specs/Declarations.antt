@@ -5,7 +5,7 @@ use Rattle.ecma_kind.specs.declared.kind.Kind.TheVariants as kind
 use Rattle.ecma_kind.specs.declared.operators.VarDeclKind.TheVariants.{Var, Let, Const}
 use Rattle.ecma_runs.specs.State.{Id, default_name, Binding}
 use Rattle.ecma_runs.specs.Exports.{Exported, Local, Star, local_as, indirect_as}
-use Rattle.ecma_runs.specs.Environment.{ids_of, empty, undefined, unfilled, import_of}
+use Rattle.ecma_runs.specs.Environment.{ids_of, empty, undefined, import_of}
 use Rattle.ecma_runs.specs.Meaning.{Meaning}
 
 -- names
@@ -82,8 +82,6 @@ lexicals_of (kind.ImportDecl false) (specifiers ∷ source ∷ attributes ∷ []
 lexicals_of (kind.FnDecl false) (name ∷ function ∷ []) = map (empty false) name.names
 lexicals_of (kind.ClassDecl false) (name ∷ class ∷ []) = map (empty false) name.names
 lexicals_of kind.SwitchCase (test ∷ statements ∷ []) = statements.lexicals
--- the variable of an enum stands before its first part, where no declaration before it in the list declares the name: in a record the first of a name counts
-lexicals_of (kind.TsEnumDecl false is_const) (name ∷ members ∷ []) = map unfilled name.names
 lexicals_of kind.ExportDecl (declaration ∷ []) = declaration.lexicals
 lexicals_of kind.ExportDefaultExpr (e ∷ []) = empty false default_name ∷ []
 lexicals_of kind.ExportDefaultDecl (declaration ∷ []) = map (empty false) declaration.default_names
@@ -112,9 +110,10 @@ vars_of kind.TryStmt children = all_vars children
 vars_of kind.CatchClause children = all_vars children
 vars_of _ children = []
 
--- the variables of a body, and of a module
+-- the variables of a body, and of a module, which are those of its list
 abbrev pub locals_of : Kind → List Meaning → List Binding
-locals_of (kind.Module shebang) (body ∷ []) = body.vars ++ body.lexicals
+locals_of (kind.Module shebang) (body ∷ []) = body.locals
+locals_of kind.List items = all_vars items ++ all_lexicals items
 locals_of kind.BlockStmt (statements ∷ []) = statements.vars ++ statements.lexicals
 locals_of _ children = []
 
@@ -219,6 +218,27 @@ abbrev pub member_texts_of : Kind → List Meaning → List (List ℕ)
 member_texts_of kind.List items = all_member_texts items
 member_texts_of kind.TsEnumMember (name ∷ init ∷ []) = listed_text name.text
 member_texts_of _ children = []
+
+-- the name of an enum of which it is a part, also behind `export`
+abbrev pub part_names_of : Kind → List Meaning → List Id
+part_names_of (kind.TsEnumDecl false is_const) (name ∷ members ∷ []) = name.names
+part_names_of kind.ExportDecl (declaration ∷ []) = declaration.part_names
+part_names_of _ children = []
+
+-- the names to which parts of enums behind it add: that of a function, a class, an enum or a namespace, also one that is exported (TypeScript handbook, "Declaration Merging")
+--   function f() { }   export class C { }   export default class D { }
+abbrev pub merged_names_of : Kind → List Meaning → List Id
+merged_names_of (kind.FnDecl false) (name ∷ function ∷ []) = name.names
+merged_names_of (kind.ClassDecl false) (name ∷ class ∷ []) = name.names
+merged_names_of (kind.TsEnumDecl false is_const) (name ∷ members ∷ []) = name.names
+merged_names_of (kind.TsModuleDecl false global) (name ∷ body ∷ []) = name.names
+merged_names_of kind.ExportDecl (declaration ∷ []) = declaration.merged_names
+merged_names_of kind.ExportDefaultDecl (declaration ∷ []) = declaration.default_names
+merged_names_of _ children = []
+
+abbrev pub is_export_of : Kind → Bool
+is_export_of kind.ExportDecl = true
+is_export_of _ = false
 
 -- what else is known
 

@@ -3,7 +3,7 @@ use Rattle.std.specs.Prelude.{true, ℕ, List, [], ◌∷◌, ◌++◌, length, 
 use Rattle.std.specs.List.{filter, list_any}
 use Rattle.ecma_runs.specs.declared.script.ImportValue.{ImportValue}
 use Rattle.ecma_runs.specs.Values.{Value, Undefined}
-use Rattle.ecma_runs.specs.State.{Id, same_id, Entered, Content, Empty, Unfilled, Holds, Imported, Binding, Arguments, Activation, Environment, State}
+use Rattle.ecma_runs.specs.State.{Id, same_id, Entered, Content, Empty, Holds, Imported, Binding, Arguments, Activation, Environment, State}
 use Rattle.ecma_runs.specs.Run.{Done, Run, ◌>>=◌, give, outside, reference_error, type_error, when, given_or, changed_at}
 use Rattle.ecma_runs.specs.Host.{import_value, taken_if}
 use Rattle.ecma_runs.specs.Objects.{Base}
@@ -60,18 +60,6 @@ undefined id = record { id = id; content = Holds Undefined; is_constant = false 
 abbrev pub import_of : List ℕ → List ℕ → Id → Binding
 import_of source name id = record { id = id; content = Imported source name; is_constant = true }
 
--- the variable of an enum; where several of a record have one name, the first counts
-abbrev pub unfilled : Id → Binding
-unfilled id = record { id = id; content = Unfilled; is_constant = false }
-
-abbrev pub filled_content : Content → Content
-filled_content Unfilled = Holds Undefined
-filled_content content = content
-
--- as a variable of a module's record
-abbrev pub filled : Binding → Binding
-filled binding = record binding { content = filled_content binding.content }
-
 -- names
 
 abbrev pub is_among : Id → List Id → Bool
@@ -109,7 +97,6 @@ resolved (e ∷ outer) declared id = when (is_among id e.ids) (give (ToVariable 
 
 abbrev pub content_value : List ImportValue → Content → Run Value
 content_value imports Empty = reference_error
-content_value imports Unfilled = reference_error
 content_value imports (Holds v) = give v
 content_value imports (Imported source name) = taken_if (import_value imports source name)
 
@@ -123,7 +110,6 @@ read_variable imports place id s = value_in imports (variable place id s) s
 
 abbrev pub unless_empty : {A : Type 0} → Content → Run A → Run A
 unless_empty Empty run = reference_error
-unless_empty Unfilled run = reference_error
 unless_empty content run = run
 
 -- 9.1.1.1.5 SetMutableBinding, in strict mode
@@ -146,27 +132,6 @@ initialize_one (e ∷ outer) id v = when (is_among id e.ids) (set_variable e.pla
 abbrev pub initialize : List Entered → List Id → Value → Run (Unit {0})
 initialize scope [] v = give tt
 initialize scope (id ∷ ids) v = initialize_one scope id v >>= λ _. initialize scope ids v
-
--- the variable of an enum becomes undefined where it is unfilled
-
-abbrev pub fill_content : ℕ → Id → Content → Run (Unit {0})
-fill_content place id Unfilled = set_variable place id Undefined
-fill_content place id content = give tt
-
-abbrev pub fill_in : ℕ → Id → Option Binding → Run (Unit {0})
-fill_in place id None = give tt
-fill_in place id (Some binding) = fill_content place id binding.content
-
-abbrev pub fill_variable : ℕ → Id → Run (Unit {0})
-fill_variable place id s = fill_in place id (variable place id s) s
-
-abbrev pub fill_one : List Entered → Id → Run (Unit {0})
-fill_one [] id = give tt
-fill_one (e ∷ outer) id = when (is_among id e.ids) (fill_variable e.place id) (fill_one outer id)
-
-abbrev pub fill : List Entered → List Id → Run (Unit {0})
-fill scope [] = give tt
-fill scope (id ∷ ids) = fill_one scope id >>= λ _. fill scope ids
 
 -- activations
 

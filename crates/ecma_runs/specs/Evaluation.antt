@@ -1,11 +1,12 @@
 -- What a node means, made of what its children mean; and what a call of a function of the program does.
-use Rattle.std.specs.Prelude.{ℕ, zero, suc, List, [], ◌∷◌, map, Option, Some, None, Bool, true, false, cond, codes, is_some, ◌&&◌}
+use Rattle.std.specs.Prelude.{ℕ, zero, suc, List, [], ◌∷◌, map, ◌++◌, Option, Some, None, Bool, true, false, cond, codes, is_some, ◌&&◌}
 use Rattle.std.specs.List.{list_all, list_any}
 use Rattle.ecma_kind.specs.declared.kind.Kind.{Kind}
 use Rattle.ecma_kind.specs.declared.kind.Kind.TheVariants as kind
 use Rattle.ecma_kind.specs.declared.operators.AssignOp.TheVariants.{Assign}
 use Rattle.ecma_kind.specs.declared.operators.BinaryOp.TheVariants.{LogicalOr}
-use Rattle.ecma_kind.specs.declared.operators.VarDeclKind.TheVariants.{Const}
+use Rattle.ecma_kind.specs.declared.operators.VarDeclKind.{VarDeclKind}
+use Rattle.ecma_kind.specs.declared.operators.VarDeclKind.TheVariants.{Var, Let, Const}
 use Rattle.ecma_tree.specs.declared.node.Node.{Node, Node-F, fold-Node}
 use Rattle.ecma_tree.specs.Nodes.{node_of}
 use Rattle.ecma_enums.specs.Values.{is_text}
@@ -14,7 +15,7 @@ use Rattle.ecma_runs.specs.Values.{Value, Undefined, Own, Host, Error}
 use Rattle.ecma_runs.specs.State.{Id, Binding, Given, Activation, Sort, Plain, Method, Arrow, BaseClass, DerivedClass, Closure, Object, Ordinary}
 use Rattle.ecma_runs.specs.Run.{Ended, TurnsSpent, Run, ◌>>=◌, give, outside, reference_error, type_error, when, given, given_or, returned_by, spend}
 use Rattle.ecma_runs.specs.Host.{Provided}
-use Rattle.ecma_runs.specs.Environment.{Reference, ToFree, empty, is_among, new_environment, resolved, fill, activation_at}
+use Rattle.ecma_runs.specs.Environment.{Reference, ToFree, empty, is_among, new_environment, resolved, activation_at}
 use Rattle.ecma_runs.specs.Enums.{Enums, known_value, as_value}
 use Rattle.ecma_runs.specs.Meaning.{Invocation, AsCall, AsConstruct, Functions, ExecutionContext, inside, Evaluation, Meaning, Known}
 use Rattle.ecma_runs.specs.Objects.{new_object, closure_at}
@@ -22,8 +23,8 @@ use Rattle.ecma_runs.specs.Functions.{pass_function, prototype_for, read, write}
 use Rattle.ecma_runs.specs.Expressions.{value_of, reference_of, written_of, initial_of, arguments_of, elements_of, texts_of, key_of, chain_of, link_of, test_of}
 use Rattle.ecma_runs.specs.Patterns.{assigned_of, bound_of, matched_of, targets_of, parameters_of}
 use Rattle.ecma_runs.specs.Classes.{made_of, default_made_of, class_made_of, defined_of, fields_of, statics_of, code_of, body_of, field_activation}
-use Rattle.ecma_runs.specs.Statements.{completion_of, varied_of, hoisted_of, last_of, effect_of, caught_of, switched_of, selected_of, member_of}
-use Rattle.ecma_runs.specs.Declarations.{names_of, default_names_of, lexicals_of, vars_of, locals_of, parameter_names_of, declared_of, last_declared_of, shorthands_of, imported_of, text_of, cooked_of, is_plain_of, is_computed_of, is_super_of, is_absent_of, is_required_of, is_this_of, is_type_of, has_body_of, is_constructor_of, has_no_effect, exports_of, member_texts_of}
+use Rattle.ecma_runs.specs.Statements.{completion_of, varied_of, hoisted_of, module_body_of, last_of, effect_of, caught_of, switched_of, selected_of, member_of}
+use Rattle.ecma_runs.specs.Declarations.{names_of, default_names_of, lexicals_of, vars_of, locals_of, parameter_names_of, declared_of, last_declared_of, shorthands_of, imported_of, text_of, cooked_of, is_plain_of, is_computed_of, is_super_of, is_absent_of, is_required_of, is_this_of, is_type_of, has_body_of, is_constructor_of, has_no_effect, exports_of, member_texts_of, part_names_of, merged_names_of, is_export_of}
 
 -- code runs in a record of its own
 abbrev pub in_record : List Binding → Option Activation → Evaluation (Unit {0}) → (ℕ → Value → Run Value) → ExecutionContext → Run Value
@@ -70,6 +71,7 @@ role_by node k children = record {
   member = member_of k children;
   varied = varied_of k children;
   hoisted = hoisted_of k children;
+  module_body = module_body_of k children;
   last = last_of k children;
   effect = effect_of node k children;
   test = test_of node k children;
@@ -96,6 +98,9 @@ role_by node k children = record {
   imported = imported_of k children;
   text = text_of k children;
   member_texts = member_texts_of k children;
+  part_names = part_names_of k children;
+  merged_names = merged_names_of k children;
+  is_export = is_export_of k;
   exports = exports_of k children;
   cooked = cooked_of k children;
   is_plain = is_plain_of k children;
@@ -134,6 +139,43 @@ constant_meaning node name value =
 -- what `exports.name = value` means, where `exports` is free
 abbrev pub set_export : Node → Meaning → Meaning → Meaning
 set_export node name value = role_by node (kind.AssignExpr Assign) (role_by node kind.MemberExpr (free_meaning node (codes "exports") ∷ text_key node name ∷ []) ∷ value ∷ [])
+
+-- lists: what they mean is what they mean with the variables of their enums, which are `var` in the list of a module and else `let` (TypeScript handbook, "Enums")
+--   enum E { A } enum E { B }   // var E; enum E { A } enum E { B }
+--   function f() { } enum f { A }   // no variable
+
+-- a variable of this name, without a value
+--   var E   let E
+abbrev pub variable_declared : Node → VarDeclKind → Id → Meaning
+variable_declared node word id =
+    role_by node (kind.VarDecl word false)
+    (role_by node kind.List (role_by node (kind.VarDeclarator false)
+    (role_by node kind.BindingIdent (role_by node (kind.Ident id.sym id.ctxt false) [] ∷ role_by node kind.Absent [] ∷ []) ∷ role_by node kind.Absent [] ∷ []) ∷ []) ∷ [])
+
+--   export var E
+abbrev pub exported_if : Node → Bool → Meaning → Meaning
+exported_if node true declaration = role_by node kind.ExportDecl (declaration ∷ [])
+exported_if node false declaration = declaration
+
+-- variables of those of some names that are not there
+abbrev pub variables_for : Node → VarDeclKind → Bool → List Id → List Id → List Meaning
+variables_for node word is_export there [] = []
+variables_for node word is_export there (id ∷ ids) =
+    cond (is_among id there) (variables_for node word is_export there ids) (exported_if node is_export (variable_declared node word id) ∷ variables_for node word is_export there ids)
+
+-- items with the variables of enums: each before the first part, unless a function, a class, an enum or a namespace before it has the name
+abbrev pub with_variables : Node → VarDeclKind → List Id → List Meaning → List Meaning
+with_variables node word before [] = []
+with_variables node word before (m ∷ ms) = variables_for node word m.is_export before m.part_names ++ (m ∷ with_variables node word (before ++ m.merged_names) ms)
+
+abbrev pub list_meaning : Node → List Meaning → Meaning
+list_meaning node items = record (role_by node kind.List items) {
+  completion = completion_of kind.List (with_variables node Let [] items);
+  module_body = module_body_of kind.List (with_variables node Var [] items);
+  lexicals = lexicals_of kind.List (with_variables node Let [] items);
+  locals = locals_of kind.List (with_variables node Var [] items);
+  exports = exports_of kind.List (with_variables node Var [] items);
+}
 
 -- enums (TypeScript handbook, "Enums"): what a part means is made of the pieces that are written for it
 --   enum E { A, B = "t" }   // (function(E) { E[E["A"] = 0] = "A"; E["B"] = "t"; })(E || (E = {}));
@@ -226,24 +268,27 @@ part_object node ids =
     role_by node (kind.BinExpr LogicalOr)
     (variable_meaning node ids ∷ role_by node (kind.AssignExpr Assign) (variable_meaning node ids ∷ role_by node kind.ObjectLit (role_by node kind.List [] ∷ []) ∷ []) ∷ [])
 
--- a function expression without a name that is called where it stands
-abbrev pub called_function : Node → Meaning → Meaning → Evaluation (Unit {0})
-called_function node function arguments x =
-    new_environment [] None >>= λ place. pass_function node (inside x place) >>= λ f. arguments.arguments x >>= λ vs. spend >>= λ _.
-    in_record (map (empty false) function.parameter_names) (Some (called_with Undefined f None vs)) (function.code vs) as_it_is (inside x place) >>= λ _. give tt
+--   (function(E) { .. })(E || (E = {}));
+abbrev pub part_call : Node → Meaning → Meaning → Meaning
+part_call node function object =
+    role_by node kind.ExprStmt
+    (role_by node kind.CallExpr (role_by node kind.FnExpr (role_by node kind.Absent [] ∷ function ∷ []) ∷ role_by node kind.List (object ∷ []) ∷ role_by node kind.Absent [] ∷ []) ∷ [])
 
--- a part of an enum: where none of its members is written, its variable alone stands
+-- a part of an enum: nothing, where none of its members is written
 abbrev pub enum_part_by : Node → Bool → Meaning → List Id → List (List ℕ) → Meaning → Evaluation (Unit {0})
 enum_part_by node is_const name ids texts members x =
-    fill x.scope ids >>= λ _.
-    when (is_left_out is_const x.known.enums ids texts) (give tt)
-    (called_function node (part_function node is_const name ids members) (role_by node kind.List (part_object node ids ∷ [])) x)
+    when (is_left_out is_const x.known.enums ids texts) (give tt) ((part_call node (part_function node is_const name ids members) (part_object node ids)).completion x)
 
 abbrev pub enum_part : Node → Bool → Meaning → Meaning → Evaluation (Unit {0})
 enum_part node is_const name members = enum_part_by node is_const name name.names members.member_texts members
 
+-- the function keeps the node of the part, so that is what a call of it runs
 abbrev pub enum_meaning : Node → Bool → Meaning → Meaning → Meaning
-enum_meaning node is_const name members = record (role_by node (kind.TsEnumDecl false is_const) (name ∷ members ∷ [])) { completion = enum_part node is_const name members }
+enum_meaning node is_const name members = record (role_by node (kind.TsEnumDecl false is_const) (name ∷ members ∷ [])) {
+  completion = enum_part node is_const name members;
+  parameter_names = (part_function node is_const name name.names members).parameter_names;
+  code = (part_function node is_const name name.names members).code;
+}
 
 -- an expression with a type means what the expression means, annotations, type parameters and type arguments what a missing child means, and what has no effect what an alias means, in every role
 abbrev pub meaning_by : Node → Kind → List Meaning → Meaning
@@ -262,6 +307,7 @@ meaning_by node kind.TsQualifiedName (left ∷ right ∷ []) = role_by node kind
 meaning_by node (kind.TsImportEqualsDecl false false) (name ∷ source ∷ []) = constant_meaning node name source
 meaning_by node (kind.TsImportEqualsDecl true false) (name ∷ source ∷ []) =
     cond source.is_required (constant_meaning node name (set_export node name source)) (role_by node kind.ExportDecl (constant_meaning node name source ∷ []))
+meaning_by node kind.List items = list_meaning node items
 meaning_by node (kind.TsEnumDecl false is_const) (name ∷ members ∷ []) = enum_meaning node is_const name members
 meaning_by node kind.TsEnumMember (name ∷ init ∷ []) = member_meaning node name init
 meaning_by node k children = cond (has_no_effect k children) (no_effect node) (role_by node k children)

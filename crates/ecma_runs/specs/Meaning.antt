@@ -80,6 +80,8 @@ pub record Meaning : Type 0 where
   pub varied : Evaluation (Unit {0})
   -- as a statement of a scope that is entered: its functions are set (14.2.3 BlockDeclarationInstantiation)
   pub hoisted : Evaluation (Unit {0})
+  -- as the list of a module: its items are done
+  pub module_body : Evaluation (Unit {0})
   -- as an item of a module that is done behind all items
   pub last : Evaluation (Unit {0})
   -- as the head of `for`, or what follows a round; as the test of `for`
@@ -113,7 +115,7 @@ pub record Meaning : Type 0 where
   -- the variables that its scope has of it (8.2.5 LexicallyScopedDeclarations), and the function around (8.2.6 VarDeclaredNames)
   pub lexicals : List Binding
   pub vars : List Binding
-  -- the variables of the body of a function or of a module
+  -- the variables of the body of a function or of a module, and of its list
   pub locals : List Binding
   -- the names of the parameters of the function that it is, or whose constructor stands in it
   pub parameter_names : List Id
@@ -127,6 +129,11 @@ pub record Meaning : Type 0 where
   pub text : Option (List ℕ)
   -- the names of the members of an enum that it is or lists
   pub member_texts : List (List ℕ)
+  -- the name of an enum of which it is a part, which needs a variable in its list; the names to which parts of enums behind it in its list add; and
+  -- whether it stands behind `export`
+  pub part_names : List Id
+  pub merged_names : List Id
+  pub is_export : Bool
   -- what it exports, behind `from` that source
   pub exports : Option (List ℕ) → List Exported
   -- of text parts of a template: what they say, if all their escapes are well formed

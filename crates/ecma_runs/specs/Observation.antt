@@ -1,6 +1,6 @@
 -- What the host observes of a module: the events, and how the run of its body and of a script's actions ends.
 -- All of it is this project's own, but for the order of a module's run (ECMAScript, 16.2.1.6 Source Text Module Records).
-use Rattle.std.specs.Prelude.{ℕ, List, [], ◌∷◌, map, Some, None, Bool, true, false, not, ◌&&◌, ◌||◌, bytes_eq}
+use Rattle.std.specs.Prelude.{ℕ, List, [], ◌∷◌, Some, None, Bool, true, false, not, ◌&&◌, ◌||◌, bytes_eq}
 use Rattle.ecma_tree.specs.declared.node.Node.{Node}
 use Rattle.ecma_config.specs.declared.config.Config.{Config}
 use Rattle.ecma_runs.specs.declared.observation.Event.{Event}
@@ -15,7 +15,7 @@ use Rattle.ecma_runs.specs.Values.{Value, Undefined}
 use Rattle.ecma_runs.specs.State.{Id, same_id, Entered, Unbound, Activation, State}
 use Rattle.ecma_runs.specs.Exports.{Exported, Local, Indirect, Star, local_ids, local_name, has_star}
 use Rattle.ecma_runs.specs.Run.{Outcome, Done, Thrown, Returned, Broken, Continued, Ended, Stop, TurnsSpent, AnswersSpent, Outside, Run, ◌>>=◌, give, outside, when, each}
-use Rattle.ecma_runs.specs.Environment.{filled, new_environment, read_variable}
+use Rattle.ecma_runs.specs.Environment.{new_environment, read_variable}
 use Rattle.ecma_runs.specs.Enums.{Enums, bare, enums_in}
 use Rattle.ecma_runs.specs.Host.{Provided, provided_by, handled, taken, show, import_value, taken_if}
 use Rattle.ecma_runs.specs.Meaning.{Known, ExecutionContext}
@@ -119,7 +119,7 @@ known_of options m = record { declared = (meaning m).declared; enums = enums_of 
 -- a module's run: its scope is entered, its body runs, and then the actions
 abbrev pub run_module : Known → Node → Script → Run Ending
 run_module known m script =
-    new_environment (map filled (meaning m).locals) (Some module_activation) >>= λ place.
+    new_environment (meaning m).locals (Some module_activation) >>= λ place.
     run_body (module_context (provided_by script) known place) m >>= λ outcome.
     run_actions (module_context (provided_by script) known place) (exports_in m) script.actions outcome
 

@@ -17,11 +17,9 @@ same_id a b = bytes_eq a.sym b.sym && nat_eq a.ctxt b.ctxt
 abbrev pub default_name : Id
 default_name = record { sym = codes "*default*"; ctxt = 0 }
 
--- what a variable holds: nothing until it is initialized, a value, or the import of a name from a source, whose value the script gives at its use.
--- The variable of an enum is unfilled until a part of it runs: in the record of a module it is undefined then, else it is empty.
+-- what a variable holds: nothing until it is initialized, a value, or the import of a name from a source, whose value the script gives at its use
 pub data Content : Type 0 where
   Empty : Content
-  Unfilled : Content
   Holds : Value → Content
   Imported : List ℕ → List ℕ → Content
 

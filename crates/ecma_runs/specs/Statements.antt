@@ -53,7 +53,7 @@ abbrev pub completion_of : Kind → List Meaning → Evaluation (Unit {0})
 completion_of kind.Absent children x = give tt
 completion_of kind.List items x = all_completions items x
 -- 16.2.1.11 Module: Evaluation
-completion_of (kind.Module shebang) (body ∷ []) x = body.completion x >>= λ _. body.last x
+completion_of (kind.Module shebang) (body ∷ []) x = body.module_body x >>= λ _. body.last x
 -- 14.5.1 Expression Statement: Evaluation
 completion_of kind.ExprStmt (e ∷ []) x = e.value x >>= λ _. give tt
 -- 14.3 Declarations and the Variable Statement
@@ -98,6 +98,11 @@ completion_of (kind.ExportAll false) children x = give tt
 completion_of kind.TsExportAssignment children x = give tt
 completion_of (kind.TsTypeAliasDecl declare) children x = give tt
 completion_of _ children x = outside
+
+-- the items of a module, in order
+abbrev pub module_body_of : Kind → List Meaning → Evaluation (Unit {0})
+module_body_of kind.List items x = all_completions items x
+module_body_of _ children x = outside
 
 abbrev pub all_last : List Meaning → Evaluation (Unit {0})
 all_last [] x = give tt

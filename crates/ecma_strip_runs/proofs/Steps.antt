@@ -82,7 +82,7 @@ Layer span k ns = record { span = span; kind = k; children = ns }
 setter_meaning : (n : Node) (key type other parameter body : Meaning) → meaning_by n kind.SetterProp (key ∷ type ∷ parameter ∷ body ∷ []) ≡ meaning_by n kind.SetterProp (key ∷ other ∷ parameter ∷ body ∷ [])
 setter_meaning n key type other parameter body = refl
 
-module _ (known : Known) (enums : EnumsStand known.enums same_names true None stripped Fine) (has : enums.has ≡ true) where
+module _ (known : Known) (enums : EnumsStand known.enums known.enums same_names true stripped Fine) (has : enums.has ≡ true) where
   abbrev pub stripping : Change
   stripping = images_where Fine stripped known the_same enums
 
@@ -382,12 +382,12 @@ module _ (known : Known) (enums : EnumsStand known.enums same_names true None st
 
 -- where nothing is known of enums, nothing is known of them without what goes
 
-abbrev stripped_stand : (known : Known) (may_change : Bool) → known.enums ≡ no_enums may_change → EnumsStand known.enums same_names true None stripped Fine
+abbrev stripped_stand : (known : Known) (may_change : Bool) → known.enums ≡ no_enums may_change → EnumsStand known.enums known.enums same_names true stripped Fine
 stripped_stand known may_change is = record {
   has = true;
   may_change = may_change;
   lacking = λ e. absurd (true_false e);
-  exact = λ e. record { plain = refl; same = λ id. refl; all = λ id. refl; used = refl; nothing_passed = refl };
+  exact = λ e. record { plain = refl; same = λ id. refl; all = λ id. refl; used = refl };
   reads = λ n h. no_reading known.enums may_change is (stripped n) n;
 }
 
@@ -395,6 +395,6 @@ pub stripping_keeps_runs : StrippingKeepsRuns
 stripping_keeps_runs turns options m script h none_before none_behind =
     let known : Known = known_of options m in
     let none : known.enums ≡ no_enums options.ts_enum_is_mutable = bare_lacking_enums options m none_before in
-    let stand : EnumsStand known.enums same_names true None stripped Fine = stripped_stand known options.ts_enum_is_mutable none in
+    let stand : EnumsStand known.enums known.enums same_names true stripped Fine = stripped_stand known options.ts_enum_is_mutable none in
     ap (λ n. observe n options (stripped m) script) (sym (add-zero turns))
-    ∙ observe_unless (stripping known stand refl) refl (steps known stand refl) refl refl turns options m script h refl (lacking_enums options (stripped m) none_behind ∙ sym none) plain_starts tt tt (none_excused _)
+    ∙ observe_unless (stripping known stand refl) refl (steps known stand refl) refl refl refl turns options m script h refl (lacking_enums options (stripped m) none_behind ∙ sym none) plain_starts tt tt (none_excused _)
