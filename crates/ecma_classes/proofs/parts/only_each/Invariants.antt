@@ -1,0 +1,6 @@
+use Rattle.std.proofs.Common.{◌≡◌, map}
+use Rattle.ecma_rewriting.specs.Rewriting.{only}
+use Rattle.ecma_classes.proofs.parts.only_each.Given as goal
+
+abbrev pub invariant-loop-nodes : goal.invariant-loop-nodes
+invariant-loop-nodes l = l.ones ≡ map only l.yielded

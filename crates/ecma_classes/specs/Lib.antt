@@ -1,0 +1,11 @@
+pub mod Homes
+pub mod Members
+pub mod Places
+pub mod Forms
+pub mod Written
+pub mod Needs
+pub mod Drawing
+pub mod Folding
+pub mod Steps
+pub mod Folders
+pub mod Laws
