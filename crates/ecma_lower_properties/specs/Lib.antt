@@ -1,0 +1,5 @@
+pub mod Seats
+pub mod Assigning
+pub mod Writing
+pub mod Lowered
+pub mod Writes

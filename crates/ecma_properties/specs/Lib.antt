@@ -1,0 +1,5 @@
+pub mod Classes
+pub mod Keys
+pub mod Supers
+pub mod Standing
+pub mod Refusing
