@@ -6,7 +6,7 @@ mod Literals
 mod Kept
 pub mod Relation
 pub mod Suiting
-mod Forming
+pub mod Forming
 pub mod Relating
 mod Sorted
 pub mod SortsKept

@@ -56,7 +56,7 @@ module _ (R : Node → Type 0) (step : (n : Node) → ((i : ℕ) (c : Node) → 
   each (e ∷ es) zero c at = let same : e.0 ≡ c = cc in subst R same e.1
   each (e ∷ es) (suc i) c at = each es i c at
 
-  by-children : (n : Node) → R n
+  pub by-children : (n : Node) → R n
   by-children = ind-Node R (λ x y is. step (roll-Node x) (λ i c at.
       each y.children i c (ap (λ (z : Node-F Node). slice_get z.children i) is ∙ (sym (ap (λ (z : Node-F Node). slice_get z.children i) (out-roll-Node x)) ∙ at))))
 
@@ -66,7 +66,7 @@ made-kind span k cs = ap (λ (z : Node-F Node). z.kind) (out-roll-Node (record {
 made-span : (span : Span) (k : Kind) (cs : List Node) → (out-Node (node_of span k cs)).span ≡ span
 made-span span k cs = ap (λ (z : Node-F Node). z.span) (out-roll-Node (record { span = span; kind = k; children = cs }))
 
-made-children : (span : Span) (k : Kind) (cs : List Node) → children_of (node_of span k cs) ≡ cs
+pub made-children : (span : Span) (k : Kind) (cs : List Node) → children_of (node_of span k cs) ≡ cs
 made-children span k cs = ap (λ (z : Node-F Node). z.children) (out-roll-Node (record { span = span; kind = k; children = cs }))
 
 each-at : (Q : Node → Type 0) (cs : List Node) → Each Q cs → (i : ℕ) (c : Node) → slice_get cs i ≡ Some c → Throughout Q c

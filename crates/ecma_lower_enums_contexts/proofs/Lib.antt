@@ -1,0 +1,6 @@
+mod Moving
+mod Naming
+mod Made
+mod Reading
+mod Seating
+mod Law
