@@ -7,16 +7,14 @@ use Rattle.ecma_tree.specs.declared.node.Node.{Node, Node-F, out-Node}
 use Rattle.ecma_tree.specs.declared.node.Node.TheViews.{out-roll-Node}
 use Rattle.ecma_tree.specs.Sorted.{one}
 use Rattle.ecma_rules.specs.Children.{kind_of}
-use Rattle.ecma_scope.specs.Declarations.{stated}
-use Rattle.ecma_scope.specs.Resolved.{Place, context_count, innermost, inside, kind_at, nowhere, placed, resolved, resolved_at, taken}
-use Rattle.ecma_scope.specs.Scopes.{covers, is_root}
+use Rattle.ecma_scope.specs.Resolved.{Place, context_count, inside, kind_at, nowhere, placed, resolved, resolved_at, taken}
 use Rattle.ecma_scope.proofs.Opening.{resolved_at-out}
 use Rattle.ecma_scope.proofs.Unchanged.{keeps-sorts}
 use Rattle.ecma_enclose.specs.Enclosing.{enclosed}
 use Rattle.ecma_enclose_fits.proofs.Adding.{Adds, All, children_of, enclosed_adds, is_open, more, none}
 use Rattle.ecma_enclose_fits.proofs.Alike.{all_of, kind_same}
 use Rattle.ecma_enclose_scopes.proofs.Counted.{count_same, taken_same}
-use Rattle.ecma_enclose_scopes.proofs.Declared.{names_same, opens_same, role_same}
+use Rattle.ecma_enclose_scopes.proofs.Placed.{inside_same}
 use Rattle.ecma_interface.specs.Names.{Id}
 use Rattle.ecma_interface_laws.proofs.Alike.{Alike, Related, Step, dull, named}
 use Rattle.ecma_interface_laws.proofs.Changed.{usual}
@@ -40,13 +38,6 @@ module _ (unresolved top : ℕ) where
       ap out-Node (resolved_at-out unresolved top a p l)
       ∙ out-roll-Node (record { span = (out-Node a).span; kind = kind_at unresolved p (kind_of a); children = below a p l })
 
-  inside_same : (p : Place) (l : ℕ) {a b : Node} → Adds a b → (i : ℕ) → inside top p b l i ≡ inside top p a l i
-  inside_same p l r i =
-      λ j. record {
-        role = role_same p.role r i j;
-        scopes = cond (opens_same p.role r j && covers p.role (kind_same r j) i) (p.scopes ++ record { ctxt = cond (is_root p.role) top l; states = stated (names_same p.role (innermost p.scopes) r j) } ∷ []) p.scopes;
-      }
-
   all_placed : {ns ms : List Node} → All ns ms → (f g : ℕ → Place) → ((i : ℕ) → g i ≡ f i) → (asks : ℕ → Bool) (i l : ℕ) → Related Resolves asks (placed f i ns (map at ns) l) (placed g i ms (map at ms) l)
   all_placed none f g same asks i l = tt
   all_placed (more {n} {m} {ns} {ms} r all) f g same asks i l =
@@ -63,7 +54,7 @@ module _ (unresolved top : ℕ) where
   below_related : (a b : Node) (p : Place) (l : ℕ) → Adds a b → is_open (kind_of a) ≡ false → (m : ℕ → Bool) → Related Resolves m (below a p l) (below b p l)
   below_related a b p l r o m =
       subst (λ z. Related Resolves m (below a p l) (placed (inside top p b l) 0 (children_of b) (map at (children_of b)) (l - z))) (sym (taken_same p.role r))
-      (all_placed (all_of r o) (inside top p a l) (inside top p b l) (inside_same p l r) m 0 (l - taken p.role a))
+      (all_placed (all_of r o) (inside top p a l) (inside top p b l) (inside_same top p l r) m 0 (l - taken p.role a))
 
   below_none : (a b : Node) (p : Place) (l : ℕ) → Adds a b → is_open (kind_of a) ≡ false → below a p l ≡ [] → below b p l ≡ []
   below_none a b p l r o e = none_placed (all_of r o) (inside top p a l) (inside top p b l) 0 (l - taken p.role a) (l - taken p.role b) e

@@ -1,5 +1,5 @@
 -- Scopes declare the same names in a tree with bound names.
-use Rattle.std.proofs.Common.{◌≡◌, ◌∙◌, inl, inr, ℕ, zero, suc, ◌+◌, Bool, true, false, not, ◌==◌, cond, List, [], ◌∷◌, ◌++◌, map, Option, Some, None, refl, sym, ap, ap₂, slice_get, arith}
+use Rattle.std.proofs.Common.{◌≡◌, ◌∙◌, inl, inr, ℕ, zero, suc, ◌+◌, Bool, true, false, not, ◌==◌, cond, List, [], ◌∷◌, ◌++◌, map, Option, Some, None, refl, sym, ap, ap₂, subst, slice_get, arith}
 use Rattle.std.specs.Prelude.{filter}
 use Rattle.std.proofs.lemmas.Bool.{true≢false}
 use Rattle.ecma_kind.specs.Sorts.{is_type_wrapper}
@@ -22,8 +22,12 @@ use Rattle.ecma_scope.specs.declared.form.Part.TheVariants as part
 use Rattle.ecma_scope.specs.declared.form.Sought.{Sought}
 use Rattle.ecma_scope.specs.Declarations.{declarations, declared_here, declared_step, found_at, found_in, holds_vars, in_default, in_item, in_member, in_name, in_scope, in_var, is_own, names, own_part, sought_by, sought_in, vars_of}
 use Rattle.ecma_scope.specs.Scopes.{is_ambient}
+use Rattle.ecma_scope.specs.Shown.{is_enum, is_export, is_member, text_by, visible_names}
+use Rattle.ecma_scope.specs.declared.form.Form.TheVariants as form
+use Rattle.ecma_scope.proofs.ShownAlike.{AllRelated, AllSameNames, FirstRelated, SameFirst, Showing, all-related, same_names}
+use Rattle.ecma_tree.specs.Sorted.{is_list}
 use Rattle.ecma_bind.specs.Binding.{bound_at, is_typed_name, under_types}
-use Rattle.ecma_bind_fits.proofs.Alike.{bound_parts, six_at, typed_parts, usual_children, usual_kind}
+use Rattle.ecma_bind_fits.proofs.Alike.{bound_parts, kind_same, six_at, typed_parts, usual_children, usual_kind}
 use Rattle.ecma_bind_fits.proofs.Bound.{bound_each, by_children, children_of, typed_is}
 use Rattle.ecma_bind_runs.proofs.Quiet.{AsGood, Quiet, as_good, assigns, hands_on, quiet_binds, quiet_in}
 use Rattle.ecma_bind_runs.proofs.Tops.{free_quiet, takes_target}
@@ -224,3 +228,81 @@ pub names_same : (q : Standing) (around : List ℕ → Option Bool) (n : Node) (
 names_same q around n r t =
     let s : Sought = record { part = own_part q; stays = not (is_ambient q) } in
     ap₂ (λ a b. filter (is_own q around) (a ++ b)) (declared_same n r s (no_part r s (own_scope q))) (vars_same q (not (is_ambient q)) n r t)
+
+pub visible_same : (q : Standing) (around : List ℕ → Option Bool) (n : Node) (r : Role) → is_typed_name r n ≡ false → visible_names q around (bound_at n r) ≡ visible_names q around n
+visible_same q around n r t = ap₂ (λ k (found : List Declaration). cond (is_enum k) [] found) (usual_kind n r t) (names_same q around n r t)
+
+-- ---- what is shown to children
+
+-- a node that is bound in some role
+abbrev IsBound : Node → Node → Type 0
+IsBound c d = (r : Role) × (d ≡ bound_at c r)
+
+abbrev First : List Node → List Node → Type 0
+First = FirstRelated declarations declarations same_names refl (λ xs ys. refl) IsBound
+
+first_bound : (cs : List Node) (roles : ℕ → Role) → First cs (bound_each roles cs)
+first_bound [] roles = tt
+first_bound (c ∷ cs) roles = (roles 0, refl)
+
+usual_first : (c : Node) (r : Role) → is_typed_name r c ≡ false → First (children_of c) (children_of (bound_at c r))
+usual_first c r t = subst (First (children_of c)) (sym (usual_children c r t)) (first_bound (children_of c) (role_in r (kind_of c)))
+
+-- no typed name is of these kinds
+untyped : (is : Kind → Bool) → ((k : Kind) → is k ≡ true → is_type_wrapper k ≡ false) → (c : Node) (r : Role) → is (kind_of c) ≡ true → is_typed_name r c ≡ false
+untyped is none c r h = by (is_typed_name r c) refl
+  where
+    by : (t : Bool) → is_typed_name r c ≡ t → t ≡ false
+    by false t = refl
+    by true t = absurd (true≢false (sym (typed_parts c r t).1 ∙ none (kind_of c) h))
+
+export_unwrapped : (k : Kind) → is_export k ≡ true → is_type_wrapper k ≡ false
+export_unwrapped kind.ExportDecl h = refl
+export_unwrapped _ h = cc
+
+enum_unwrapped : (k : Kind) → is_enum k ≡ true → is_type_wrapper k ≡ false
+enum_unwrapped (kind.TsEnumDecl declare is_const) h = refl
+enum_unwrapped _ h = cc
+
+shows_bound : (c : Node) (r : Role) → Showing declarations declarations same_names refl (λ xs ys. refl) IsBound c (bound_at c r)
+shows_bound c r = record {
+  member = kind_same Bool is_member (refl, refl, refl, refl, refl, refl) c r;
+  exports = kind_same Bool is_export (refl, refl, refl, refl, refl, refl) c r;
+  enums = kind_same Bool is_enum (refl, refl, refl, refl, refl, refl) c r;
+  text = kind_same (Option (List ℕ)) text_by (refl, refl, refl, refl, refl, refl) c r;
+  members = declared_same c r (record { part = part.Member; stays = true }) (no_part r (record { part = part.Member; stays = true }) refl);
+  scope = λ is. declared_same c r (record { part = part.Scope; stays = true }) (no_part r (record { part = part.Scope; stays = true }) refl);
+  exported = λ is. usual_first c r (untyped is_export export_unwrapped c r is);
+  named = λ is. usual_first c r (untyped is_enum enum_unwrapped c r is);
+}
+
+shows : (c d : Node) → IsBound c d → Showing declarations declarations same_names refl (λ xs ys. refl) IsBound c d
+shows c d (r, is) = subst (Showing declarations declarations same_names refl (λ xs ys. refl) IsBound c) (sym is) (shows_bound c r)
+
+all_bound : (cs : List Node) (roles : ℕ → Role) → AllRelated declarations declarations same_names refl (λ xs ys. refl) IsBound cs (bound_each roles cs)
+all_bound [] roles = tt
+all_bound (c ∷ cs) roles = ((roles 0, refl), all_bound cs (λ j. roles (suc j)))
+
+member_quiet : (k : Kind) (r : Role) → is_member k ≡ true → Quiet (role_in r k 0)
+member_quiet k r h = quiet_aside k (still k h) (untaken k h) r 0
+  where
+    still : (k : Kind) → is_member k ≡ true → hands_on k ≡ false
+    still kind.TsEnumMember h = refl
+    still _ h = cc
+
+    untaken : (k : Kind) → is_member k ≡ true → takes_target k ≡ false
+    untaken kind.TsEnumMember h = refl
+    untaken _ h = cc
+
+first_names : (cs : List Node) (roles : ℕ → Role) → Quiet (roles 0) → SameFirst cs (bound_each roles cs)
+first_names [] roles quiet = refl
+first_names (c ∷ cs) roles quiet = ap (λ (ds : List Declaration). ds ++ []) (declared_same c (roles 0) (record { part = part.Name form.Member; stays = true }) (λ e. quiet))
+
+module _ (n : Node) (r : Role) (t : is_typed_name r n ≡ false) where
+  pub items_same : is_list (kind_of n) ≡ true → AllSameNames (children_of n) (children_of (bound_at n r))
+  items_same listed =
+      subst (AllSameNames (children_of n)) (sym (usual_children n r t))
+      (all-related declarations declarations same_names refl (λ xs ys. refl) IsBound shows (children_of n) (bound_each (role_in r (kind_of n)) (children_of n)) (all_bound (children_of n) (role_in r (kind_of n))))
+
+  pub first_same : is_member (kind_of n) ≡ true → SameFirst (children_of n) (children_of (bound_at n r))
+  first_same member = subst (SameFirst (children_of n)) (sym (usual_children n r t)) (first_names (children_of n) (role_in r (kind_of n)) (member_quiet (kind_of n) r member))

@@ -1,5 +1,5 @@
 -- A tree with bound names is, with its contexts, the tree with its contexts whose names are bound.
-use Rattle.std.proofs.Common.{◌≡◌, ◌∙◌, ◌⊎◌, inl, inr, ℕ, suc, ◌-◌, Bool, true, false, not, ◌&&◌, ◌||◌, cond, List, [], ◌∷◌, ◌++◌, map, Some, refl, sym, ap, ap₂, slice_get}
+use Rattle.std.proofs.Common.{◌≡◌, ◌∙◌, ◌⊎◌, inl, inr, ℕ, zero, suc, ◌-◌, Bool, true, false, not, ◌&&◌, ◌||◌, cond, List, [], ◌∷◌, ◌++◌, map, Some, refl, sym, ap, ap₂, slice_get}
 use Rattle.std.proofs.lemmas.Bool.{true≢false}
 use Rattle.ecma_kind.specs.Sorts.{is_type_wrapper}
 use Rattle.ecma_kind.specs.declared.kind.Kind.{Kind}
@@ -9,7 +9,7 @@ use Rattle.ecma_kind.specs.declared.shapes.Sort.TheVariants as sort
 use Rattle.ecma_tree.specs.declared.node.Node.{Node, Node-F, fold_out-Node, out-Node, roll-Node}
 use Rattle.ecma_tree.specs.declared.node.Node.TheViews.{out-roll-Node}
 use Rattle.ecma_tree.specs.Nodes.{absent, node_of}
-use Rattle.ecma_tree.specs.Sorted.{HasShape, one}
+use Rattle.ecma_tree.specs.Sorted.{HasShape, is_list, one}
 use Rattle.ecma_tree.proofs.Layers.{from_leaves_out}
 use Rattle.ecma_rules.specs.Children.{kind_of}
 use Rattle.ecma_rules.specs.Finishing.{binding}
@@ -20,15 +20,19 @@ use Rattle.ecma_fits.specs.Roles.{is_name, role_in}
 use Rattle.ecma_scope.specs.declared.role.Role.{Role as Standing}
 use Rattle.ecma_scope.specs.declared.role.Role.TheVariants as standing
 use Rattle.ecma_scope.specs.Declarations.{stated}
-use Rattle.ecma_scope.specs.Resolved.{Place, context_count, innermost, inside, kind_at, nowhere, placed, resolve_step, resolved_at, scope_at, taken}
-use Rattle.ecma_scope.specs.Scopes.{covers, is_root, is_there}
+use Rattle.ecma_scope.specs.Resolved.{Place, context_count, context_of, innermost, inside, kind_at, left_for, nowhere, placed, resolve_step, resolved_at, shown_scope, shown_scopes, taken, waiting_scopes, with_scope}
+use Rattle.ecma_scope.specs.Shown as origin
+use Rattle.ecma_scope.specs.Shown.{Origin, is_enum, is_export, is_member}
+use Rattle.ecma_scope.proofs.Resolving.{append-none}
+use Rattle.ecma_scope.proofs.ShownAlike.{shown_scopes-alike, waiting_scopes-alike}
+use Rattle.ecma_scope.specs.Scopes.{covers, is_ambient, is_root, is_there, role_in as seen_in}
 use Rattle.ecma_bind.specs.Binding.{binds, bound_at, first_or, is_name_under_types, is_typed_name, names_step, under_types}
 use Rattle.ecma_bind_fits.proofs.Alike.{bound_parts, typed_parts, usual_children, usual_kind, usual_span}
 use Rattle.ecma_bind_fits.proofs.Bound.{bound_each, by_children, children_of, typed_is, usual_is}
 use Rattle.ecma_bind_scopes.specs.Laws.{BoundNamesResolveAlike}
 use Rattle.ecma_bind_scopes.proofs.Counted.{Shaped, binding_closed, child_shaped, count_same}
-use Rattle.ecma_bind_scopes.proofs.Declared.{names_same}
-use Rattle.ecma_bind_scopes.proofs.Sights.{Plain, Wrapped, closed_opens, closed_role, is_closed, opens_same, seen_same, under_plain, view}
+use Rattle.ecma_bind_scopes.proofs.Declared.{first_same, items_same, visible_same}
+use Rattle.ecma_bind_scopes.proofs.Sights.{Plain, Wrapped, closed_exports, closed_opens, closed_role, closed_shows, closed_waits, is_closed, opens_same, seen_same, under_plain, view}
 
 module _ (unresolved top : ℕ) where
   abbrev at_place : Node → Place → ℕ → Node
@@ -94,14 +98,17 @@ module _ (unresolved top : ℕ) where
   -- ---- what stands under types
 
   abbrev plain_place : Place → Place
-  plain_place p = record { role = standing.Plain; scopes = p.scopes }
+  plain_place p = record { role = standing.Plain; scopes = p.scopes; waiting = [] }
 
   closed_inside : (p : Place) (n : Node) (l i : ℕ) → is_closed (kind_of n) ≡ true → inside top p n l i ≡ plain_place p
   closed_inside p n l i c =
-      λ j. record {
+      (λ j. record {
         role = closed_role p.role (kind_of n) (is_there (children_of n) 1) i c j;
-        scopes = cond (closed_opens p.role (kind_of n) (is_there (children_of n) 0) c j && covers p.role (kind_of n) i) (p.scopes ++ scope_at top p n l ∷ []) p.scopes;
-      }
+        scopes = cond (closed_opens p.role (kind_of n) (is_there (children_of n) 0) c j && covers p.role (kind_of n) i) (with_scope top p n l) p.scopes
+            ++ map (shown_scope top p n l) (closed_shows (kind_of n) (children_of n) i c j);
+        waiting = cond (closed_exports (kind_of n) c j) p.waiting (map (shown_scope top p n l) (closed_waits (kind_of n) (children_of n) i c j));
+      })
+      ∙ (λ j. record { role = standing.Plain; scopes = append-none p.scopes j; waiting = [] })
 
   -- a node without children does not look at how many contexts are left
   leaf_resolved : (n : Node) → children_of n ≡ [] → (p : Place) (l m : ℕ) → at_place n p l ≡ at_place n p m
@@ -182,16 +189,40 @@ module _ (unresolved top : ℕ) where
   abbrev Resolves : Node → Type 0
   Resolves n = Shaped n → (r : Role) (p : Place) (l : ℕ) → at_place (bound_at n r) p l ≡ bound_at (at_place n p l) r
 
-  inside_same : (p : Place) (n : Node) (r : Role) → is_typed_name r n ≡ false → (l i : ℕ) → inside top p (bound_at n r) l i ≡ inside top p n l i
-  inside_same p n r t l i =
-      λ j. record {
-        role = seen_same p.role n r t i j;
-        scopes = cond (opens_same p.role n r t j && covers p.role (usual_kind n r t j) i)
-            (p.scopes ++ record { ctxt = cond (is_root p.role) top l; states = stated (names_same p.role (innermost p.scopes) n r t j) } ∷ []) p.scopes;
-      }
-
   taken_same : (q : Standing) (n : Node) (r : Role) → is_typed_name r n ≡ false → taken q (bound_at n r) ≡ taken q n
   taken_same q n r t = ap (λ b. cond (b && not (is_root q)) 1 0) (opens_same q n r t)
+
+  -- the children of a node
+
+  left_same : (cs : List Node) (roles : ℕ → Role) (f g : ℕ → Standing) → ((i : ℕ) → f i ≡ g i) → (k : ℕ) → ((j : ℕ) (c : Node) → slice_get cs j ≡ Some c → Shaped c) → (l i : ℕ)
+      → left_for f k (bound_each roles cs) l i ≡ left_for g k cs l i
+  left_same [] roles f g same k shaped l i = refl
+  left_same (c ∷ cs) roles f g same k shaped l zero = refl
+  left_same (c ∷ cs) roles f g same k shaped l (suc i) =
+      ap (λ m. left_for f (suc k) (bound_each (λ j. roles (suc j)) cs) (l - m) i) (ap (context_count (bound_at c (roles 0))) (same k) ∙ count_same c (shaped 0 c refl) (roles 0) (g k))
+      ∙ left_same cs (λ j. roles (suc j)) f g same (suc k) (λ j d at. shaped (suc j) d at) (l - context_count c (g k)) i
+
+  module _ (p : Place) (n : Node) (s : Shaped n) (r : Role) (t : is_typed_name r n ≡ false) (l : ℕ) where
+    context_same : (o : Origin) → context_of top p (bound_at n r) l o ≡ context_of top p n l o
+    context_same origin.innermost = refl
+    context_same (origin.enum_at i exported) =
+        (λ j. left_for (seen_in p.role (bound_at n r)) 0 (usual_children n r t j) (l - taken_same p.role n r t j) i)
+        ∙ left_same (children_of n) (role_in r (kind_of n)) (seen_in p.role (bound_at n r)) (seen_in p.role n) (seen_same p.role n r t) 0 (λ j c at. child_shaped n s j c at) (l - taken p.role n) i
+
+    inside_same : (i : ℕ) → inside top p (bound_at n r) l i ≡ inside top p n l i
+    inside_same i =
+        let kinds = usual_kind n r t in
+        let shows : shown_scopes top p (bound_at n r) l i ≡ shown_scopes top p n l i =
+        shown_scopes-alike top p p n (bound_at n r) l l i (ap is_list kinds) (items_same n r t) context_same (ap is_member kinds) (first_same n r t) in
+        let waits : waiting_scopes top p (bound_at n r) l i ≡ waiting_scopes top p n l i =
+        waiting_scopes-alike top p p n (bound_at n r) l l i (ap is_list kinds) (items_same n r t) context_same (ap is_export kinds) refl in
+        λ j. record {
+          role = seen_same p.role n r t i j;
+          scopes = cond (opens_same p.role n r t j && covers p.role (kinds j) i)
+              (p.scopes ++ cond (is_enum (kinds j)) p.waiting [] ++ record { ctxt = cond (is_root p.role) top l; states = stated (visible_same p.role (innermost p.scopes) n r t j) } ∷ []) p.scopes
+              ++ shows j;
+          waiting = waits j;
+        }
 
   each_placed : (f g : ℕ → Place) → ((i : ℕ) → f i ≡ g i) → (cs : List Node) (roles : ℕ → Role) (i l : ℕ) → ((j : ℕ) (c : Node) → slice_get cs j ≡ Some c → Shaped c × Resolves c)
       → placed f i (bound_each roles cs) (map at_place (bound_each roles cs)) l ≡ bound_each roles (placed g i cs (map at_place cs) l)
@@ -225,7 +256,7 @@ module _ (unresolved top : ℕ) where
           ∙ ap₂ (λ (z : Kind) (cs : List Node). roll-Node (record { span = (out-Node m).span; kind = kind_in p z; children = placed (inside top p m l) 0 cs (map at_place cs) (l - taken p.role m) })) (usual_kind n r t) (usual_children n r t)
           ∙ ap₂ (λ at cs. roll-Node (record { span = at; kind = kind_in p k; children = cs })) (usual_span n r t)
           (ap (λ x. placed (inside top p m l) 0 (bound_each (role_in r k) (children_of n)) (map at_place (bound_each (role_in r k) (children_of n))) (l - x)) (taken_same p.role n r t)
-          ∙ each_placed (inside top p m l) (inside top p n l) (inside_same p n r t l) (children_of n) (role_in r k) 0 (l - taken p.role n) (λ j c at. (child_shaped n s j c at, below j c at))
+          ∙ each_placed (inside top p m l) (inside top p n l) (inside_same p n s r t l) (children_of n) (role_in r k) 0 (l - taken p.role n) (λ j c at. (child_shaped n s j c at, below j c at))
           ∙ each_roles (role_in r k) (role_in r (kind_in p k)) (λ i. sym (role_told p k r i)) (placed_in n p l))
           ∙ ap (λ (z : Node-F Node). roll-Node (record { span = z.span; kind = z.kind; children = bound_each (role_in r z.kind) z.children })) (sym (out-resolved n p l))
           ∙ sym (usual_is q r (typed_resolved r n p l ∙ t))

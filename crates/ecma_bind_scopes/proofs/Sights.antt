@@ -14,6 +14,7 @@ use Rattle.ecma_fits.specs.Roles.{is_name, role_in}
 use Rattle.ecma_scope.specs.declared.role.Role.{Role as Standing}
 use Rattle.ecma_scope.specs.declared.role.Role.TheVariants as standing
 use Rattle.ecma_scope.specs.Scopes.{is_there, opens, opens_by, role_by, role_in as seen_in}
+use Rattle.ecma_scope.specs.Shown.{is_export, shown_by, waiting_by}
 use Rattle.ecma_strip_fits.proofs.Lists.{have_at}
 use Rattle.ecma_strip_fits.proofs.Walk.{shape_parts}
 use Rattle.ecma_bind.specs.Binding.{bound_at, is_name_under_types, is_typed_name, under_types}
@@ -62,6 +63,21 @@ closed_opens q kind.TsAsExpr b c = refl
 closed_opens q kind.TsInstantiation b c = refl
 closed_opens q kind.TsSatisfiesExpr b c = refl
 closed_opens q _ b c = cc
+
+pub closed_shows : (k : Kind) (cs : List Node) (i : ℕ) → is_closed k ≡ true → shown_by k cs i ≡ []
+unfolding shown_by
+closed_shows kind.List cs i c = cc
+closed_shows kind.TsEnumMember cs i c = cc
+closed_shows _ cs i c = refl
+
+pub closed_waits : (k : Kind) (cs : List Node) (i : ℕ) → is_closed k ≡ true → waiting_by k cs i ≡ []
+unfolding waiting_by
+closed_waits kind.List cs i c = cc
+closed_waits _ cs i c = refl
+
+pub closed_exports : (k : Kind) → is_closed k ≡ true → is_export k ≡ false
+closed_exports kind.ExportDecl c = cc
+closed_exports _ c = refl
 
 pub closed_role : (q : Standing) (k : Kind) (b : Bool) (i : ℕ) → is_closed k ≡ true → role_by q k b i ≡ standing.Plain
 unfolding role_by

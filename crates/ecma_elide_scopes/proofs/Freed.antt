@@ -25,8 +25,10 @@ use Rattle.ecma_scope.specs.declared.form.Declaration.{Declaration}
 use Rattle.ecma_scope.specs.declared.role.Role.{Role}
 use Rattle.ecma_scope.specs.declared.role.Role.TheVariants as role
 use Rattle.ecma_scope.specs.Scopes.{covers, is_there, opens, opens_by, role_by}
-use Rattle.ecma_scope.specs.Declarations.{keeps}
-use Rattle.ecma_scope.specs.Resolved.{Place, context_count, innermost, inside, kind_at, nowhere, placed, resolved, scope_at, taken}
+use Rattle.ecma_scope.specs.Declarations.{keeps, stated}
+use Rattle.ecma_scope.specs.Shown.{is_enum, is_export, is_member, is_shown}
+use Rattle.ecma_scope.specs.Resolved.{Place, context_count, innermost, inside, kind_at, nowhere, placed, resolved, shown_scope, taken}
+use Rattle.ecma_scope.proofs.Showing.{shown-none, waiting-none}
 use Rattle.ecma_scope.proofs.Unchanged.{changes-contexts}
 use Rattle.ecma_scope_fits.proofs.Contexts.{resolved_fit_alike}
 use Rattle.ecma_scope_fits.proofs.Moved.{children_moved, fold_same, kind_moved, moved, span_moved, to}
@@ -35,6 +37,7 @@ use Rattle.ecma_elide_scopes.specs.Laws.{ElidedScopesAreFreed}
 use Rattle.ecma_elide_scopes.proofs.Alike.{Bare, alike, at, below_bare, less_below, place, resolved_out}
 use Rattle.ecma_elide_scopes.proofs.Blind.{names_moved}
 use Rattle.ecma_elide_scopes.proofs.Fewer.{may_shrink, module_fewer, shrink, shrinks}
+use Rattle.ecma_elide_scopes.proofs.Members.{Outside, no_member, outside_below}
 use Rattle.ecma_elide_scopes.proofs.Quiet.{Sound, child_sound, is_module, never}
 use Rattle.ecma_elide_scopes.proofs.Walk.{less_none, parts_res, tied, walk_whole}
 
@@ -82,6 +85,10 @@ unfolding opens_by
 module_opens r (kind.Module shebang) b h = refl
 module_opens r _ b h = cc
 
+module_part : (k : Kind) → is_module k ≡ true → (is_enum k ≡ false) × (is_export k ≡ false) × (is_member k ≡ false)
+module_part (kind.Module shebang) h = (refl, refl, refl)
+module_part _ h = cc
+
 module_covers : (r : Role) (k : Kind) (i : ℕ) → is_module k ≡ true → covers r k i ≡ true
 unfolding covers
 module_covers r (kind.Module shebang) i h = refl
@@ -114,18 +121,23 @@ module_shrinks (kind.Module shebang) h = refl
 module_shrinks _ h = cc
 
 module _ (unresolved top : ℕ) where
-  root_inside : (x : Node) (l i : ℕ) → is_module (kind_of x) ≡ true → inside top nowhere x l i ≡ place unresolved top role.Plain (module_names x) []
+  root_inside : (x : Node) (l i : ℕ) → is_module (kind_of x) ≡ true → inside top nowhere x l i ≡ place unresolved top role.Plain (module_names x) [] []
   root_inside x l i h =
+      let none : (is_list (kind_of x) && list_any is_shown (below x)) ≡ false = ap (λ b. b && list_any is_shown (below x)) (module_list (kind_of x) h) in
+      let apart_from = module_part (kind_of x) h in
       λ j. record {
         role = module_role role.Root (kind_of x) (is_there (below x) 1) i h j;
-        scopes = cond (module_opens role.Root (kind_of x) (is_there (below x) 0) h j && module_covers role.Root (kind_of x) i h j) ([] ++ scope_at top nowhere x l ∷ []) [];
+        scopes = cond (module_opens role.Root (kind_of x) (is_there (below x) 0) h j && module_covers role.Root (kind_of x) i h j)
+            ([] ++ cond (apart_from.0 j) [] [] ++ record { ctxt = top; states = stated (cond (apart_from.0 j) [] (module_names x)) } ∷ []) []
+            ++ map (shown_scope top nowhere x l) (shown-none (kind_of x) (below x) i apart_from.2 none j);
+        waiting = cond (apart_from.1 j) [] (map (shown_scope top nowhere x l) (waiting-none (kind_of x) (below x) i none j));
       }
 
   root_taken : (x : Node) → taken role.Root x ≡ 0
   root_taken x = ap (λ b. cond b 1 0) (and_false (opens role.Root x) false refl)
 
   abbrev plain_in : List Declaration → List Node → ℕ → List Node
-  plain_in ds cs l = placed (λ i. place unresolved top role.Plain ds []) 0 cs (map (at unresolved top) cs) l
+  plain_in ds cs l = placed (λ i. place unresolved top role.Plain ds [] []) 0 cs (map (at unresolved top) cs) l
 
   root_children : (x : Node) (l : ℕ) → is_module (kind_of x) ≡ true
       → placed (inside top nowhere x l) 0 (below x) (map (at unresolved top) (below x)) (l - taken role.Root x) ≡ plain_in (module_names x) (below x) l
@@ -202,19 +214,25 @@ module _ (unresolved top : ℕ) where
 
     -- the module with all that stands in it
     same_children : (cs : List Node) → ((i : ℕ) (c : Node) → slice_get cs i ≡ Some c → Bare c) → (i l : ℕ) → l < top
-        → placed (λ j. place unresolved top role.Plain old []) i cs (map (at unresolved top) cs) l
-        ≡ map (to (freed_by unresolved top old)) (placed (λ j. place unresolved top role.Plain old []) i cs (map (at unresolved top) cs) l)
-    same_children [] bares i l less = refl
-    same_children (c ∷ cs) bares i l less =
-        ap₂ (λ a rest. a ∷ rest) (alike unresolved top apart old old (λ text h. h) c (bares 0 c refl) role.Plain [] l refl (λ b. cc) tt less)
-        (same_children cs (λ j. bares (suc j)) (suc i) (l - context_count c role.Plain) (less_below l (context_count c role.Plain) top less))
+        → ((i : ℕ) (c : Node) → slice_get cs i ≡ Some c → Outside c) → placed (λ j. place unresolved top role.Plain old [] []) i cs (map (at unresolved top) cs) l
+        ≡ map (to (freed_by unresolved top old)) (placed (λ j. place unresolved top role.Plain old [] []) i cs (map (at unresolved top) cs) l)
+    same_children [] bares i l less outs = refl
+    same_children (c ∷ cs) bares i l less outs =
+        let out = outs 0 c refl in
+        ap₂ (λ a rest. a ∷ rest)
+        (alike unresolved top apart old old (λ text h. h) c (bares 0 c refl) out.shape out.has role.Plain [] [] l refl (λ b. cc) (λ may. never (no_member out.shape) out.none may) tt tt less)
+        (same_children cs (λ j. bares (suc j)) (suc i) (l - context_count c role.Plain) (less_below l (context_count c role.Plain) top less) (λ j. outs (suc j)))
+
+    -- the module stands outside of all enums
+    outs : (i : ℕ) (c : Node) → slice_get (below source) i ≡ Some c → Outside c
+    outs = outside_below source (module_part (kind_of source) is_root).0 (record { shape = one sort.Module; has = fits.sorted; none = refl })
 
     whole : freed unresolved top bound ≡ resolved unresolved top left (clear bound)
     whole =
         meets bound bound_kind
         (ap (λ z. plain_in (module_names bound) z left) (sym (children_moved empty bound) ∙ ap below back)
         ∙ ap (λ ds. plain_in ds (below source) left) old_names
-        ∙ same_children (below source) (below_bare source bare) 0 left less
+        ∙ same_children (below source) (below_bare source bare) 0 left less outs
         ∙ sym (λ j. map (to (freed_by unresolved top (old_names j))) (below_bound j)))
 
     -- and what is left of it
@@ -223,7 +241,7 @@ module _ (unresolved top : ℕ) where
         meets e (kind_to (dropping known) false seat.Elsewhere bound ∙ bound_kind)
         (ap (λ z. plain_in new (map clear z) left) be
         ∙ walk_whole unresolved top apart old new fewer known o g (λ i. role.Plain) (λ i. role.Plain) (λ i. refl) (λ i. refl) (λ i. refl) (below source)
-        (λ i c at. tied unresolved top apart old new fewer known c) (below_bare source bare) 0 left less
+        (λ i c at. tied unresolved top apart old new fewer known c) (below_bare source bare) outs 0 left less
         (subst (λ (zs : List Node). (i : ℕ) (c : Node) → slice_get zs i ≡ Some c → Sound c) below_bound sounds)
         ∙ sym (ap (map (to (freed_by unresolved top new))) be))
       where

@@ -57,14 +57,14 @@ spine_list _ h = refl
 
 -- ---- a module stands in no node
 
-abbrev takes_none : Kind → Shape → Bool
+abbrev pub takes_none : Kind → Shape → Bool
 takes_none k u = not (allows u k) && not (allows (item_shape u) k)
 
-expressions : (k : Kind) (n : ℕ) → takes_none k (one sort.Expr) ≡ true → list_all (takes_none k) (replicate n (one sort.Expr)) ≡ true
+pub expressions : (k : Kind) (n : ℕ) → takes_none k (one sort.Expr) ≡ true → list_all (takes_none k) (replicate n (one sort.Expr)) ≡ true
 expressions k zero h = refl
 expressions k (suc n) h = ap₂ (λ a b. a && b) h (expressions k n h)
 
-replicated : (k : Kind) (n : ℕ) (u : Shape) → takes_none k u ≡ true → list_all (takes_none k) (replicate n u) ≡ true
+pub replicated : (k : Kind) (n : ℕ) (u : Shape) → takes_none k u ≡ true → list_all (takes_none k) (replicate n u) ≡ true
 replicated k zero u h = refl
 replicated k (suc n) u h = ap₂ (λ a b. a && b) h (replicated k n u h)
 
@@ -77,18 +77,17 @@ none_below kind.SeqExpr t zero shebang l = refl
 none_below kind.SeqExpr t (suc n) shebang l = expressions (kind.Module shebang) (suc n) refl
 none_below _ t n shebang l = refl
 
-items_none : (t : Shape) (shebang : Option (List ℕ)) → takes_none (kind.Module shebang) t ≡ true → takes_none (kind.Module shebang) (item_shape t) ≡ true
-items_none t shebang none = by t.count t.sort (and_parts (not (allows t (kind.Module shebang))) (not (allows (item_shape t) (kind.Module shebang))) none).1
+pub items_none : (k : Kind) (t : Shape) → takes_none k t ≡ true → takes_none k (item_shape t) ≡ true
+items_none k t none = by t.count t.sort (and_parts (not (allows t k)) (not (allows (item_shape t) k)) none).1
   where
-    by : (c : Count) (s : Sort) → not (allows (item_shape (record { count = c; sort = s })) (kind.Module shebang)) ≡ true
-        → takes_none (kind.Module shebang) (item_shape (record { count = c; sort = s })) ≡ true
+    by : (c : Count) (s : Sort) → not (allows (item_shape (record { count = c; sort = s })) k) ≡ true → takes_none k (item_shape (record { count = c; sort = s })) ≡ true
     by One s v = ap₂ (λ a b. a && b) v v
     by Maybe s v = ap₂ (λ a b. a && b) v v
     by Many s v = ap₂ (λ a b. a && b) v v
     by MaybeMany s v = ap₂ (λ a b. a && b) v v
     by Holes s v = ap₂ (λ a b. a && b) v v
 
-all_at : (p : Shape → Bool) (ts : List Shape) (i : ℕ) (u : Shape) → list_all p ts ≡ true → slice_get ts i ≡ Some u → p u ≡ true
+pub all_at : (p : Shape → Bool) (ts : List Shape) (i : ℕ) (u : Shape) → list_all p ts ≡ true → slice_get ts i ≡ Some u → p u ≡ true
 all_at p [] i u h at = cc
 all_at p (x ∷ xs) zero u h at = let same : x ≡ u = cc in subst (λ z. p z ≡ true) same (and_parts (p x) (list_all p xs) h).0
 all_at p (x ∷ xs) (suc i) u h at = all_at p xs i u (and_parts (p x) (list_all p xs) h).1 at
@@ -102,7 +101,7 @@ child_none k t n i u none at shebang = by (is_list k) refl
     by : (b : Bool) → is_list k ≡ b → takes_none m u ≡ true
     by true l =
         all_at (takes_none m) (child_shapes k t n) i u
-        (subst (λ ts. list_all (takes_none m) ts ≡ true) (sym (items_asked k t n l)) (replicated m n (item_shape t) (items_none t shebang (none l shebang)))) at
+        (subst (λ ts. list_all (takes_none m) ts ≡ true) (sym (items_asked k t n l)) (replicated m n (item_shape t) (items_none m t (none l shebang)))) at
     by false l = all_at (takes_none m) (child_shapes k t n) i u (none_below k t n shebang l) at
 
 not_module : (k : Kind) (t : Shape) → NoModule t → allows t k ≡ true → is_module k ≡ false

@@ -1,5 +1,6 @@
 -- Without parentheses round the first child of a statement or a loop, a resolved tree is the same with parentheses added: so it runs alike.
 use Rattle.std.proofs.Common.{◌≡◌, ◌∙◌, ℕ, zero, suc, ◌-◌, Bool, true, false, ◌&&◌, ◌||◌, cond, List, [], ◌∷◌, ◌++◌, map, refl, sym, ap, ap₂, arith, true≢false}
+use Rattle.std.specs.List.{list_any}
 use Rattle.ecma_kind.specs.declared.kind.Kind.{Kind}
 use Rattle.ecma_kind.specs.declared.kind.Kind.TheVariants as kind
 use Rattle.ecma_kind.specs.declared.shapes.Sort.TheVariants as sort
@@ -8,7 +9,7 @@ use Rattle.ecma_kind.specs.declared.span.Span.{Span}
 use Rattle.ecma_tree.specs.declared.node.Node.{Node, Node-F, fold-roll-Node, fold_out-Node, out-Node, roll-Node}
 use Rattle.ecma_tree.specs.declared.node.Node.TheViews.{out-roll-Node}
 use Rattle.ecma_tree.specs.Nodes.{node_of}
-use Rattle.ecma_tree.specs.Sorted.{one}
+use Rattle.ecma_tree.specs.Sorted.{is_list, one}
 use Rattle.ecma_rules.specs.Children.{kind_of}
 use Rattle.ecma_rules.specs.Statements.{is_text}
 use Rattle.ecma_rules.specs.Targets.{first_is}
@@ -16,15 +17,19 @@ use Rattle.ecma_runs.specs.Observation.{enums_of, observe}
 use Rattle.ecma_runs.proofs.EnumTrees.{bare_lacking_enums}
 use Rattle.ecma_scope.specs.declared.role.Role.{Role}
 use Rattle.ecma_scope.specs.declared.role.Role.TheVariants as role
-use Rattle.ecma_scope.specs.Declarations.{stated}
-use Rattle.ecma_scope.specs.Resolved.{Place, Scope, context_count, innermost, inside, kind_at, nowhere, placed, resolved, resolved_at, scope_at, taken}
+use Rattle.ecma_scope.specs.Resolved.{Place, Scope, context_count, inside, kind_at, nowhere, placed, resolved, resolved_at, shown_scope, taken, with_scope}
+use Rattle.ecma_scope.specs.Scopes.{covers, is_there, role_by}
+use Rattle.ecma_scope.specs.Shown.{is_enum, is_export, is_member, is_shown}
 use Rattle.ecma_scope.proofs.Opening.{resolved_at-out}
-use Rattle.ecma_scope.specs.Scopes.{covers, is_root, is_there, role_by}
+use Rattle.ecma_scope.proofs.Resolving.{append-none}
+use Rattle.ecma_scope.proofs.Showing.{shown-none, waiting-none}
+use Rattle.ecma_scope.proofs.Unwaited.{unwaited}
 use Rattle.ecma_enclose.specs.Enclosing.{enclosed, in_parentheses, is_async_under_types, is_text_under_types, under_step}
 use Rattle.ecma_enclose_fits.proofs.Adding.{Adds, All, Alone, Below, adds, children_of, enclosed_adds, every, first, more, none}
-use Rattle.ecma_enclose_fits.proofs.Alike.{kind_same, span_same}
+use Rattle.ecma_enclose_fits.proofs.Alike.{alone_lone, kind_same, seven_at, span_same}
 use Rattle.ecma_enclose_scopes.proofs.Counted.{count_same, paren_count, paren_taken, taken_same}
-use Rattle.ecma_enclose_scopes.proofs.Declared.{names_same, open_role, opens_same, paren_children, paren_kind, paren_round, role_same, round_opens, round_role}
+use Rattle.ecma_enclose_scopes.proofs.Declared.{open_role, paren_children, paren_kind, paren_round, round_opens, round_role}
+use Rattle.ecma_enclose_scopes.proofs.Placed.{inside_same}
 use Rattle.ecma_enclose_runs.specs.Laws.{EnclosedTreesRunAlike}
 use Rattle.ecma_enclose_runs.proofs.Heads.{inner, inner_by, unclosed, unclosed_kind, unclosed_node, unclosed_runs, unclosed_tree}
 use Rattle.ecma_enclose_runs.proofs.Untaken.{taken_lacks_enums, unclosed_taken_lacks_enums}
@@ -86,27 +91,36 @@ module _ (unresolved top : ℕ) where
   alone_inner k e alone p l =
       other_inner (unclosed_tree (at e p l)) (ap is_paren (unclosed_kind (at e p l) ∙ at_kind e p l) ∙ other_at p (kind_of e) (alone_other k e alone))
 
-  inside_same : (p : Place) (l : ℕ) {a b : Node} → Adds a b → (i : ℕ) → inside top p b l i ≡ inside top p a l i
-  inside_same p l r i =
-      λ j. record {
-        role = role_same p.role r i j;
-        scopes = cond (opens_same p.role r j && covers p.role (kind_same r j) i) (p.scopes ++ record { ctxt = cond (is_root p.role) top l; states = stated (names_same p.role (innermost p.scopes) r j) } ∷ []) p.scopes;
-      }
-
   -- ---- parentheses
 
-  paren_inside : (q : Place) → q.role ≡ role.Plain → (e : Node) (l : ℕ) → inside top q (in_parentheses e) l 0 ≡ q
+  -- nothing waits there
+  abbrev unwaiting : Place → Place
+  unwaiting q = record { role = q.role; scopes = q.scopes; waiting = [] }
+
+  paren_inside : (q : Place) → q.role ≡ role.Plain → (e : Node) (l : ℕ) → inside top q (in_parentheses e) l 0 ≡ unwaiting q
   paren_inside q plain e l =
-      let closed = round_opens q.role (in_parentheses e) (paren_round e) in
-      λ j. record {
-        role = (round_role q.role (in_parentheses e) 0 (paren_round e) ∙ sym plain) j;
-        scopes = cond (closed j && covers q.role (kind_of (in_parentheses e)) 0) (q.scopes ++ scope_at top q (in_parentheses e) l ∷ []) q.scopes;
-      }
+      let n : Node = in_parentheses e in
+      let k : Kind = kind_of n in
+      let closed = round_opens q.role n (paren_round e) in
+      let other : is_member k ≡ false = ap is_member (paren_kind e) in
+      let none : (is_list k && list_any is_shown (children_of n)) ≡ false = ap (λ z. is_list z && list_any is_shown (children_of n)) (paren_kind e) in
+      (λ j. record {
+        role = (round_role q.role n 0 (paren_round e) ∙ sym plain) j;
+        scopes = cond (closed j && covers q.role k 0) (with_scope top q n l) q.scopes ++ map (shown_scope top q n l) (shown-none k (children_of n) 0 other none j);
+        waiting = cond (is_export (paren_kind e j)) q.waiting (map (shown_scope top q n l) (waiting-none k (children_of n) 0 none j));
+      })
+      ∙ (λ j. record { role = q.role; scopes = append-none q.scopes j; waiting = [] })
+
+  -- what waits does not matter to an expression that stands alone
+  alone_plain : (k : Kind) (e : Node) → Alone k e → (is_enum (kind_of e) ≡ false) × (is_export (kind_of e) ≡ false)
+  alone_plain k e alone =
+      let lone = alone_lone k e alone in
+      (seven_at Bool is_enum false ((λ value raw. refl), refl, refl, refl, refl, refl, refl) (kind_of e) lone, seven_at Bool is_export false ((λ value raw. refl), refl, refl, refl, refl, refl, refl) (kind_of e) lone)
 
   none_taken : (l : ℕ) → l - 0 ≡ l
   none_taken l = omega arith
 
-  paren_opened : (e : Node) (q : Place) → q.role ≡ role.Plain → (l : ℕ) → unclosed_tree (at (in_parentheses e) q l) ≡ node_of (out-Node (in_parentheses e)).span kind.ParenExpr (unclosed_tree (at e q l) ∷ [])
+  paren_opened : (e : Node) (q : Place) → q.role ≡ role.Plain → (l : ℕ) → unclosed_tree (at (in_parentheses e) q l) ≡ node_of (out-Node (in_parentheses e)).span kind.ParenExpr (unclosed_tree (at e (unwaiting q) l) ∷ [])
   paren_opened e q plain l =
       let n = in_parentheses e in
       opened-out n q l
@@ -115,8 +129,10 @@ module _ (unresolved top : ℕ) where
 
   paren_inner : (k : Kind) (e : Node) → Alone k e → (q : Place) → q.role ≡ role.Plain → (l : ℕ) → inner (unclosed_tree (at (in_parentheses e) q l)) ≡ inner (unclosed_tree (at e q l))
   paren_inner k e alone q plain l =
-      let parts : Node-F Node = record { span = (out-Node (in_parentheses e)).span; kind = kind.ParenExpr; children = unclosed_tree (at e q l) ∷ [] } in
-      ap inner (paren_opened e q plain l) ∙ ap (λ (z : Node-F Node). inner_by z.kind z.children (roll-Node parts)) (out-roll-Node parts) ∙ sym (alone_inner k e alone q l)
+      let parts : Node-F Node = record { span = (out-Node (in_parentheses e)).span; kind = kind.ParenExpr; children = unclosed_tree (at e (unwaiting q) l) ∷ [] } in
+      let quiet = alone_plain k e alone in
+      ap inner (paren_opened e q plain l) ∙ ap (λ (z : Node-F Node). inner_by z.kind z.children (roll-Node parts)) (out-roll-Node parts)
+      ∙ ap unclosed_tree (unwaited unresolved top q.role q.scopes [] q.waiting e l quiet.0 quiet.1) ∙ sym (alone_inner k e alone q l)
 
   -- without parentheses round the first, children are the same
   heads_same : (k : Kind) (e : Node) → Alone k e → (p : Place) (a b : Node) (cs ds : List Node) → inner a ≡ inner b → cs ≡ ds → unclosed (kind_at unresolved p k) (a ∷ cs) ≡ unclosed (kind_at unresolved p k) (b ∷ ds)
@@ -133,7 +149,7 @@ module _ (unresolved top : ℕ) where
         ∙ (λ j. opened_parts (span j) (kind_at unresolved p (k j)) (map unclosed_tree (placed_in b p l)))
         ∙ ap (λ t. opened_parts (out-Node a).span (kind_at unresolved p (kind_of a)) (map unclosed_tree (placed (inside top p b l) 0 (children_of b) (map at (children_of b)) (l - t)))) (taken_same p.role r)
         ∙ ap (node_of (out-Node a).span (kind_at unresolved p (kind_of a)))
-        (below_opened (kind_of a) p (is_there (children_of a) 1) below (inside top p b l) (inside top p a l) (inside_same p l r) (λ i. refl) (l - taken p.role a))
+        (below_opened (kind_of a) p (is_there (children_of a) 1) below (inside top p b l) (inside top p a l) (inside_same top p l r) (λ i. refl) (l - taken p.role a))
         ∙ sym (opened-out a p l)
 
     below_opened : (k : Kind) (o : Place) (sourced : Bool) {ns ms : List Node} → Below k ns ms → (f g : ℕ → Place) → ((i : ℕ) → f i ≡ g i) → ((i : ℕ) → (g i).role ≡ role_by o.role k sourced i) → (l : ℕ)

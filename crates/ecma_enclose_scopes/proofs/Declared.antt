@@ -12,10 +12,11 @@ use Rattle.ecma_rules.specs.Children.{kind_of}
 use Rattle.ecma_scope.specs.declared.role.Role.{Role}
 use Rattle.ecma_scope.specs.declared.role.Role.TheVariants as role
 use Rattle.ecma_scope.specs.declared.form.Declaration.{Declaration}
+use Rattle.ecma_scope.specs.declared.form.Form.TheVariants as form
 use Rattle.ecma_scope.specs.declared.form.Part.{Part}
 use Rattle.ecma_scope.specs.declared.form.Part.TheVariants as part
 use Rattle.ecma_scope.specs.declared.form.Sought.{Sought}
-use Rattle.ecma_scope.specs.Declarations.{declarations, declared_here, declared_step, found_at, found_in, holds_vars, in_default, in_item, in_member, in_name, in_scope, in_var, is_own, names, own_part, sought_by, sought_in, vars_of}
+use Rattle.ecma_scope.specs.Declarations.{declarations, declared_here, declared_step, found_at, found_in, holds_vars, in_default, in_item, in_member, in_name, in_scope, in_var, is_own, member_by, names, own_part, sought_by, sought_in, vars_of}
 use Rattle.ecma_scope.specs.Scopes.{is_ambient, is_there, opens, opens_by, role_by, role_in}
 use Rattle.ecma_enclose.specs.Enclosing.{in_parentheses}
 use Rattle.ecma_enclose_fits.proofs.Adding.{Adds, All, Alone, Below, adds, children_of, every, first, is_open, more, none}
@@ -93,9 +94,22 @@ found_none : (into : ℕ → Option Sought) → ((i : ℕ) → into i ≡ None) 
 found_none into h i [] = refl
 found_none into h i (child ∷ children) = ap₂ (λ o rest. found_at o child ++ rest) (h i) (found_none into h (suc i) children)
 
-round_here : (s : Sought) (k : Kind) → is_round k ≡ true → declared_here s k ≡ []
+-- where the names of members are looked for, a text declares one
+abbrev names_member : Part → Bool
+names_member (part.Name form.Member) = true
+names_member _ = false
+
+abbrev seeks_member : Option Sought → Bool
+seeks_member None = false
+seeks_member (Some s) = names_member s.part
+
+text_none : (p : Part) (text : List ℕ) (stays : Bool) → names_member p ≡ false → member_by p text stays ≡ []
+text_none (part.Name form.Member) text stays h = cc
+text_none _ text stays h = refl
+
+round_here : (s : Sought) (k : Kind) → names_member s.part ≡ false → is_round k ≡ true → declared_here s k ≡ []
 unfolding declared_here
-round_here s k r = eight_at (List Declaration) (declared_here s) [] (((λ value raw. refl), refl, refl, refl, refl, refl, refl), refl) k r
+round_here s k h r = eight_at (List Declaration) (declared_here s) [] (((λ value raw. text_none s.part value s.stays h), refl, refl, refl, refl, refl, refl), refl) k r
 
 round_sought : (p : Part) (stays value : Bool) (k : Kind) (i : ℕ) → is_round k ≡ true → sought_by p stays value k i ≡ None
 unfolding in_scope in_item in_default in_member in_var in_name
@@ -110,9 +124,35 @@ round_in : (s : Sought) (n : Node) (i : ℕ) → is_round (kind_of n) ≡ true �
 unfolding sought_in
 round_in s n i r = round_sought s.part s.stays (is_value_where s.stays n) (kind_of n) i r
 
--- neither a text, nor a type round an expression, nor parentheses declare anything
-pub round_none : (n : Node) → is_round (kind_of n) ≡ true → (s : Sought) → declarations n s ≡ []
-round_none n r s = decl-out n s ∙ ap₂ (λ a b. a ++ b) (round_here s (kind_of n) r) (found_none (sought_in s n) (λ i. round_in s n i r) 0 (map declarations (children_of n)))
+-- elsewhere neither a text, nor a type round an expression, nor parentheses declare anything
+pub round_none : (n : Node) → is_round (kind_of n) ≡ true → (s : Sought) → names_member s.part ≡ false → declarations n s ≡ []
+round_none n r s h = decl-out n s ∙ ap₂ (λ a b. a ++ b) (round_here s (kind_of n) h r) (found_none (sought_in s n) (λ i. round_in s n i r) 0 (map declarations (children_of n)))
+
+-- and of what stands in a statement, or before `of`, no member's name is asked
+open_seeks : (p : Part) (stays value : Bool) (k : Kind) (e : Node) → Alone k e → seeks_member (sought_by p stays value k 0) ≡ false
+unfolding in_scope in_item in_default in_member in_var in_name
+open_seeks part.Scope stays value kind.ExprStmt e alone = refl
+open_seeks part.Scope stays value (kind.ForOfStmt is_await) e alone = refl
+open_seeks part.Scope stays value _ e alone = absurd alone
+open_seeks part.Item stays value kind.ExprStmt e alone = refl
+open_seeks part.Item stays value (kind.ForOfStmt is_await) e alone = refl
+open_seeks part.Item stays value _ e alone = absurd alone
+open_seeks part.Default stays value kind.ExprStmt e alone = refl
+open_seeks part.Default stays value (kind.ForOfStmt is_await) e alone = refl
+open_seeks part.Default stays value _ e alone = absurd alone
+open_seeks part.Member stays value kind.ExprStmt e alone = refl
+open_seeks part.Member stays value (kind.ForOfStmt is_await) e alone = refl
+open_seeks part.Member stays value _ e alone = absurd alone
+open_seeks part.Var stays value kind.ExprStmt e alone = refl
+open_seeks part.Var stays value (kind.ForOfStmt is_await) e alone = refl
+open_seeks part.Var stays value _ e alone = absurd alone
+open_seeks (part.Name f) stays value kind.ExprStmt e alone = refl
+open_seeks (part.Name f) stays value (kind.ForOfStmt is_await) e alone = refl
+open_seeks (part.Name f) stays value _ e alone = absurd alone
+
+open_sought : (s : Sought) (n : Node) (k : Kind) (e : Node) → kind_of n ≡ k → Alone k e → seeks_member (sought_in s n 0) ≡ false
+unfolding sought_in
+open_sought s n k e is alone = ap (λ z. seeks_member (sought_by s.part s.stays (is_value_where s.stays n) z 0)) is ∙ open_seeks s.part s.stays (is_value_where s.stays n) k e alone
 
 sought_same : (s : Sought) {a b : Node} → Adds a b → (i : ℕ) → sought_in s b i ≡ sought_in s a i
 unfolding sought_in
@@ -122,18 +162,25 @@ at_same : (o : Option Sought) (f g : Sought → List Declaration) → ((s : Soug
 at_same None f g same = refl
 at_same (Some s) f g same = same s
 
+at_other : (o : Option Sought) (f g : Sought → List Declaration) → seeks_member o ≡ false → ((s : Sought) → names_member s.part ≡ false → f s ≡ g s) → found_at o f ≡ found_at o g
+at_other None f g h same = refl
+at_other (Some s) f g h same = same s h
+
 mutual
   pub declared_same : {a b : Node} → Adds a b → (s : Sought) → declarations b s ≡ declarations a s
   declared_same {a} {b} (adds sh k at below) s =
       decl-out b s
-      ∙ ap₂ (λ here rest. here ++ rest) (ap (declared_here s) k) (below_found below (sought_in s b) (sought_in s a) (sought_same s (adds sh k at below)))
+      ∙ ap₂ (λ here rest. here ++ rest) (ap (declared_here s) k) (below_found below (sought_in s b) (sought_in s a) (sought_same s (adds sh k at below)) (λ e alone. open_sought s a (kind_of a) e refl alone))
       ∙ sym (decl-out a s)
 
-  below_found : {k : Kind} {ns ms : List Node} → Below k ns ms → (f g : ℕ → Option Sought) → ((i : ℕ) → f i ≡ g i) → found_in f 0 (map declarations ms) ≡ found_in g 0 (map declarations ns)
-  below_found (every all) f g same = all_found all f g same 0
-  below_found {k} (first e alone all) f g same =
+  below_found : {k : Kind} {ns ms : List Node} → Below k ns ms → (f g : ℕ → Option Sought) → ((i : ℕ) → f i ≡ g i) → ((e : Node) → Alone k e → seeks_member (g 0) ≡ false)
+      → found_in f 0 (map declarations ms) ≡ found_in g 0 (map declarations ns)
+  below_found (every all) f g same other = all_found all f g same 0
+  below_found {k} (first e alone all) f g same other =
       let lone = lone_round (kind_of e) (alone_lone k e alone) in
-      ap₂ (λ x rest. x ++ rest) (ap (λ o. found_at o (declarations (in_parentheses e))) (same 0) ∙ at_same (g 0) (declarations (in_parentheses e)) (declarations e) (λ s. round_none (in_parentheses e) (paren_round e) s ∙ sym (round_none e lone s)))
+      ap₂ (λ x rest. x ++ rest)
+      (ap (λ o. found_at o (declarations (in_parentheses e))) (same 0)
+      ∙ at_other (g 0) (declarations (in_parentheses e)) (declarations e) (other e alone) (λ s h. round_none (in_parentheses e) (paren_round e) s h ∙ sym (round_none e lone s h)))
       (all_found all f g same 1)
 
   all_found : {ns ms : List Node} → All ns ms → (f g : ℕ → Option Sought) → ((i : ℕ) → f i ≡ g i) → (i : ℕ) → found_in f i (map declarations ms) ≡ found_in g i (map declarations ns)

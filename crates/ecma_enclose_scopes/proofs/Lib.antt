@@ -1,3 +1,4 @@
 pub mod Declared
 pub mod Counted
+pub mod Placed
 pub mod Told

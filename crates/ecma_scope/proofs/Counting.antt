@@ -3,15 +3,9 @@ use Rattle.std.proofs.Common.{◌≡◌, ℕ, zero, suc, ◌+◌, ◌-◌, ◌<�
 use Rattle.ecma_tree.specs.declared.node.Node.{Node, out-Node}
 use Rattle.ecma_scope.specs.declared.role.Role.{Role}
 use Rattle.ecma_scope.specs.Scopes.{role_in}
-use Rattle.ecma_scope.specs.Resolved.{context_count, counted, taken}
+use Rattle.ecma_scope.specs.Resolved.{context_count, counted, left_for, taken}
 use Rattle.ecma_scope.specs.Frames.{children_count}
 use Rattle.ecma_scope.proofs.Opening.{context_count-out}
-
--- how many are left for the child at i of those from the one at k on
-abbrev pub left_for : (ℕ → Role) → ℕ → List Node → ℕ → ℕ → ℕ
-left_for role_of k [] left i = left
-left_for role_of k (x ∷ xs) left zero = left
-left_for role_of k (x ∷ xs) left (suc i) = left_for role_of (suc k) xs (left - context_count x (role_of k)) i
 
 -- the children before it have taken so many
 pub record Before (role_of : ℕ → Role) (k : ℕ) (xs : List Node) (left i : ℕ) (x : Node) : Type 0 where

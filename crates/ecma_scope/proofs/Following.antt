@@ -1,6 +1,7 @@
 -- The contexts of a resolved tree follow the bindings of its identifiers.
-use Rattle.std.proofs.Common.{◌≡◌, ◌==◌, ℕ, zero, suc, ◌+◌, ◌-◌, ◌<◌, ◌≤◌, Bool, true, false, ◌&&◌, ◌||◌, not, cond, List, [], ◌∷◌, ◌++◌, map, Option, Some, None, refl, sym, ap, ap₂, ◌∙◌, subst, slice_get, bytes_eq, arith}
+use Rattle.std.proofs.Common.{◌≡◌, ◌==◌, ℕ, zero, suc, ◌+◌, ◌-◌, ◌<◌, ◌≤◌, Bool, true, false, ◌&&◌, ◌||◌, not, cond, List, [], ◌∷◌, ◌++◌, map, take, Option, Some, None, refl, sym, ap, ap₂, ◌∙◌, subst, slice_get, bytes_eq, append_assoc, arith}
 use Rattle.std.specs.List.{list_any}
+use Rattle.std.specs.Option.{option_and_then, option_map, option_map_or}
 use Rattle.ecma_kind.specs.declared.kind.Kind.{Kind}
 use Rattle.ecma_kind.specs.declared.kind.Kind.TheVariants as kind
 use Rattle.ecma_tree.specs.declared.node.Node.{Node, Node-F, out-Node}
@@ -8,13 +9,17 @@ use Rattle.ecma_tree.specs.declared.node.Node.TheViews.{out-roll-Node}
 use Rattle.ecma_scope.specs.declared.form.Declaration.{Declaration}
 use Rattle.ecma_scope.specs.declared.role.Role.{Role}
 use Rattle.ecma_scope.specs.declared.role.Role.TheVariants as role
-use Rattle.ecma_scope.specs.Scopes.{at_child, covers, is_root, is_there, of_exports, of_specifier, opens, passes_ambient, passes_in_list, role_by, role_in}
-use Rattle.ecma_scope.specs.Declarations.{declares, keeps, names, stated}
-use Rattle.ecma_scope.specs.Resolved.{Place, Scope, contexts, is_name, resolved, context_count, context_in, given, innermost, inside, kind_at, placed, resolved_at, scope_at, taken}
+use Rattle.ecma_scope.specs.Scopes.{at_child, covers, is_ambient, is_root, is_there, of_exports, of_specifier, opens, opens_by, passes_ambient, passes_in_list, role_by, role_in}
+use Rattle.ecma_scope.specs.Declarations.{declares, keeps, stated}
+use Rattle.ecma_scope.specs.declared.form.Part.TheVariants as part
+use Rattle.ecma_scope.specs.Shown as origin
+use Rattle.ecma_scope.specs.Shown.{EnumPart, Origin, Shown, as_enum, enum_name, enum_of, is_enum, is_export, is_member_node, members_before, own_name, part_by, part_of, part_shown, parts_before, shown, shown_by, visible_names, waiting, waiting_by}
+use Rattle.ecma_scope.specs.Resolved.{Place, Scope, contexts, is_name, resolved, context_count, context_in, context_of, given, innermost, inside, kind_at, left_for, own_context, placed, resolved_at, scope_at, shown_scope, shown_scopes, taken, with_scope}
 use Rattle.ecma_scope.specs.Frames.{children_at}
-use Rattle.ecma_scope.specs.Bindings.{Around, FollowBindings, HasId, Identifier, IsAt, IsBound, IsFree, Leads, NoneDeclares, Occurrence, ResolvedFollows, Seen, child_of, nearest, opened_by, root_of}
-use Rattle.ecma_scope.proofs.Counting.{At, Comes, comes-next, comes-same, left_for, one-scope, within}
+use Rattle.ecma_scope.specs.Bindings.{Around, FollowBindings, HasId, Identifier, IsAt, IsBound, IsFree, Leads, NoneDeclares, Occurrence, ResolvedFollows, Seen, child_of, nearest, opened_by, own_place, place_of, root_of, shown_around, with_opened}
+use Rattle.ecma_scope.proofs.Counting.{At, Comes, comes-next, comes-same, one-scope, step, within}
 use Rattle.ecma_scope.proofs.Opening.{resolved_at-out}
+use Rattle.ecma_scope.proofs.Showing.{left_for-first}
 
 -- no child is the root
 at_child-below : (r : Role) (wanted i : ℕ) → is_root r ≡ false → is_root (at_child r wanted i) ≡ false
@@ -59,38 +64,110 @@ role_by-below r _ sourced i = refl
 true-false : true ≡ false → ⊥
 true-false e = cc
 
--- what a scope keeps it declares
-either : (b s x y : Bool) → (x ≡ true → y ≡ true) → (b && s) || x ≡ true → b || y ≡ true
-either true s x y h e = refl
-either false s x y h e = h e
+-- where scopes are shown to come from, there are enums
+abbrev IsThere : List Node → Origin → Type 0
+IsThere children origin.innermost = Unit {0}
+IsThere children (origin.enum_at k exported) = (x : Node) × (slice_get children k ≡ Some x) × ((is_export (out-Node x).kind ≡ exported) × ((node : Node) × (enum_of x ≡ Some node)))
 
-keeps-declares : (ds : List Declaration) (sym : List ℕ) → keeps ds sym ≡ true → declares ds sym ≡ true
-keeps-declares [] sym h = h
-keeps-declares (d ∷ ds) sym h =
-    either (bytes_eq d.sym sym) d.stays (list_any (λ e. bytes_eq e.sym sym && e.stays) ds) (list_any (λ e. bytes_eq e.sym sym) ds) (keeps-declares ds sym) h
+abbrev AllThere : List Node → List Shown → Type 0
+AllThere children [] = Unit {0}
+AllThere children (x ∷ xs) = IsThere children x.origin × AllThere children xs
 
-stated-kept : (ds : List Declaration) (sym : List ℕ) → keeps ds sym ≡ true → stated ds sym ≡ Some true
-stated-kept ds sym h = (λ j. cond (keeps-declares ds sym h j) (Some (h j)) None)
+there-append : (children : List Node) (xs ys : List Shown) → AllThere children xs → AllThere children ys → AllThere children (xs ++ ys)
+there-append children [] ys here also = also
+there-append children (x ∷ xs) ys here also = (here.0, there-append children xs ys here.1 also)
 
-stated-none : (ds : List Declaration) (sym : List ℕ) → declares ds sym ≡ false → stated ds sym ≡ None
-stated-none ds sym h = ap (λ (b : Bool). cond b (Some (keeps ds sym)) None) h
+part-enum : (x : Node) (p : EnumPart) (o : Option Node) → enum_of x ≡ o → option_and_then (part_by (is_export (out-Node x).kind)) o ≡ Some p
+    → (is_export (out-Node x).kind ≡ p.exported) × ((node : Node) × (enum_of x ≡ Some node))
+part-enum x p None is made = cc
+part-enum x p (Some node) is made = by (enum_name node) refl made
+  where
+    by : (o : Option (List ℕ)) → enum_name node ≡ o → option_map (λ of. record { of = of; node = node; exported = is_export (out-Node x).kind }) o ≡ Some p
+        → (is_export (out-Node x).kind ≡ p.exported) × ((node : Node) × (enum_of x ≡ Some node))
+    by None named made = cc
+    by (Some of) named made =
+        let same : ◌≡◌ {A = EnumPart} (record { of = of; node = node; exported = is_export (out-Node x).kind }) p = cc in
+        (ap (λ (q : EnumPart). q.exported) same, (node, is))
 
-by-test : (d k : Bool) → ◌≡◌ {A = Option Bool} (cond d (Some k) None) None → d ≡ false
-by-test true k e = cc
-by-test false k e = refl
+one-there : (children : List Node) (of : List ℕ) (k : ℕ) (x : Node) (o : Option EnumPart) → slice_get children k ≡ Some x → part_of x ≡ o
+    → AllThere children (option_map_or (part_shown of k) o [])
+one-there children of k x None at is = tt
+one-there children of k x (Some p) at is = by (bytes_eq p.of of)
+  where
+    by : (b : Bool) → AllThere children (cond b (record {
+      nodes = p.node ∷ [];
+      sought = record { part = part.Scope; stays = true };
+      origin = origin.enum_at k p.exported;
+    } ∷ []) [])
+    by true = ((x, at, part-enum x p (enum_of x) refl is), tt)
+    by false = tt
 
-declares-none : (ds : List Declaration) (sym : List ℕ) → stated ds sym ≡ None → declares ds sym ≡ false
-declares-none ds sym says = by-test (declares ds sym) (keeps ds sym) says
+parts-there : (children : List Node) (of : List ℕ) (k : ℕ) (xs : List Node) → ((j : ℕ) (x : Node) → slice_get xs j ≡ Some x → slice_get children (k + j) ≡ Some x)
+    → AllThere children (parts_before of k xs)
+parts-there children of k [] are = tt
+parts-there children of k (x ∷ xs) are =
+    let here : k + 0 ≡ k = omega arith in
+    there-append children (option_map_or (part_shown of k) (part_of x) []) (parts_before of (suc k) xs)
+    (one-there children of k x (part_of x) (ap (slice_get children) (sym here) ∙ are 0 x refl) refl)
+    (parts-there children of (suc k) xs (λ j y at. (let next : suc k + j ≡ k + suc j = omega arith in ap (slice_get children) next ∙ are (suc j) y at)))
 
-kept-test : (d k : Bool) → ◌≡◌ {A = Option Bool} (cond d (Some k) None) (Some true) → k ≡ true
-kept-test true k e = cc
-kept-test false k e = cc
+get-take : (xs : List Node) (i j : ℕ) (x : Node) → slice_get (take i xs) j ≡ Some x → slice_get xs j ≡ Some x
+get-take [] zero j x at = at
+get-take [] (suc i) j x at = at
+get-take (y ∷ ys) zero j x at = cc
+get-take (y ∷ ys) (suc i) zero x at = at
+get-take (y ∷ ys) (suc i) (suc j) x at = get-take ys i j x at
 
-keeps-some : (ds : List Declaration) (sym : List ℕ) → stated ds sym ≡ Some true → keeps ds sym ≡ true
-keeps-some ds sym says = kept-test (declares ds sym) (keeps ds sym) says
+shown-there : (k : Kind) (children : List Node) (i : ℕ) → AllThere children (shown_by k children i)
+unfolding shown_by
+shown-there kind.List children i = by (option_map_or is_member_node (slice_get children i) false)
+  where
+    by : (b : Bool) → AllThere children (cond b (members_before (take i children) ∷ []) [])
+    by true = (tt, tt)
+    by false = tt
+shown-there kind.TsEnumMember children i = by (i == 0)
+  where
+    by : (b : Bool) → AllThere children (cond b (own_name children ∷ []) [])
+    by true = (tt, tt)
+    by false = tt
+shown-there _ children i = tt
 
-sym-of : {A : Type 0} {x y : A} → x ≡ y → y ≡ x
-sym-of e = sym e
+waiting-there : (k : Kind) (children : List Node) (i : ℕ) → AllThere children (waiting_by k children i)
+unfolding waiting_by
+waiting-there kind.List children i = by (option_and_then part_of (slice_get children i))
+  where
+    by : (o : Option EnumPart) → AllThere children (option_map_or (λ p. parts_before p.of 0 (take i children)) o [])
+    by None = tt
+    by (Some p) = parts-there children p.of 0 (take i children) (λ j x at. (let here : 0 + j ≡ j = omega arith in ap (slice_get children) here ∙ get-take children i j x at))
+waiting-there _ children i = tt
+
+enum-opens : (r : Role) (k : Kind) (named : Bool) → is_enum k ≡ true → opens_by r k named ≡ true
+unfolding opens_by
+enum-opens r (kind.TsEnumDecl declare is_const) named enum = refl
+enum-opens r _ named enum = cc
+
+export-opens : (r : Role) (k : Kind) (named : Bool) → is_export k ≡ true → opens_by r k named ≡ false
+unfolding opens_by
+export-opens r kind.ExportDecl named export = refl
+export-opens r _ named export = cc
+
+as-enum : (b : Bool) (x node : Node) → cond b (Some x) None ≡ Some node → (b ≡ true) × (x ≡ node)
+as-enum true x node is = (let same : x ≡ node = cc in (refl, same))
+as-enum false x node is = cc
+
+plain-enum : (x : Node) → is_export (out-Node x).kind ≡ false → (node : Node) → enum_of x ≡ Some node → is_enum (out-Node x).kind ≡ true
+plain-enum x here node is =
+    (as-enum (is_enum (out-Node x).kind) x node (ap (λ (b : Bool). cond b (option_and_then as_enum (slice_get (out-Node x).children 0)) (as_enum x)) (sym here) ∙ is)).0
+
+exported-enum : (x : Node) → is_export (out-Node x).kind ≡ true → (node : Node) → enum_of x ≡ Some node
+    → (slice_get (out-Node x).children 0 ≡ Some node) × (is_enum (out-Node node).kind ≡ true)
+exported-enum x here node is = by (slice_get (out-Node x).children 0) refl (ap (λ (b : Bool). cond b (option_and_then as_enum (slice_get (out-Node x).children 0)) (as_enum x)) (sym here) ∙ is)
+  where
+    by : (o : Option Node) → slice_get (out-Node x).children 0 ≡ o → option_and_then as_enum o ≡ Some node → (slice_get (out-Node x).children 0 ≡ Some node) × (is_enum (out-Node node).kind ≡ true)
+    by None at made = cc
+    by (Some y) at made =
+        (let both = as-enum (is_enum (out-Node y).kind) y node made in
+        (at ∙ ap (λ (n : Node). Some n) both.1, subst (λ (n : Node). is_enum (out-Node n).kind ≡ true) both.1 both.0))
 
 module _ (unresolved top : ℕ) (root : At) where
   -- the context of the scope that is opened at a place
@@ -119,11 +196,77 @@ module _ (unresolved top : ℕ) (root : At) where
   nearest-like (a ∷ b ∷ ws) (s ∷ []) like = absurd like.2
   nearest-like (a ∷ b ∷ ws) (s ∷ t ∷ ss) like = (λ j sym. nearest-like (b ∷ ws) (t ∷ ss) like.2 j sym)
 
-  like-inside : (opened covered : Bool) (ws : List Around) (ss : List Scope) (a : Around) (s : Scope) → Like ws ss → (opened ≡ true → IsNumber a.at s.ctxt) → s.states ≡ stated a.declared
-      → Like (cond (opened && covered) (ws ++ a ∷ []) ws) (cond (opened && covered) (ss ++ s ∷ []) ss)
-  like-inside false covered ws ss a s like number says = like
-  like-inside true false ws ss a s like number says = like
-  like-inside true true ws ss a s like number says = like-last ws ss a s like (number refl) says
+  like-append : (ws : List Around) (ss : List Scope) (vs : List Around) (ts : List Scope) → Like ws ss → Like vs ts → Like (ws ++ vs) (ss ++ ts)
+  like-append [] [] vs ts like also = also
+  like-append [] (s ∷ ss) vs ts like also = absurd like
+  like-append (w ∷ ws) [] vs ts like also = absurd like
+  like-append (w ∷ ws) (s ∷ ss) vs ts like also = (like.0, like.1, like-append ws ss vs ts like.2 also)
+
+  like-inside : (opened covered : Bool) (ws : List Around) (ss : List Scope) (vs : List Around) (ts : List Scope) (a : Around) (s : Scope) → Like ws ss → Like vs ts → (opened ≡ true → IsNumber a.at s.ctxt)
+      → s.states ≡ stated a.declared → Like (cond (opened && covered) (ws ++ vs ++ a ∷ []) ws) (cond (opened && covered) (ss ++ ts ++ s ∷ []) ss)
+  like-inside false covered ws ss vs ts a s like also number says = like
+  like-inside true false ws ss vs ts a s like also number says = like
+  like-inside true true ws ss vs ts a s like also number says = like-last (ws ++ vs) (ss ++ ts) a s (like-append ws ss vs ts like also) (number refl) says
+
+  like-if : (b : Bool) (vs : List Around) (ts : List Scope) → Like vs ts → Like (cond b vs []) (cond b ts [])
+  like-if true vs ts like = like
+  like-if false vs ts like = tt
+
+  -- the context of the innermost scope
+  own-number : (ws : List Around) (ss : List Scope) → Like ws ss → IsNumber (own_place ws) (own_context top ss)
+  own-number [] [] like = first refl refl
+  own-number [] (s ∷ ss) like = absurd like
+  own-number (a ∷ ws) [] like = absurd like
+  own-number (a ∷ []) (s ∷ []) like = like.0
+  own-number (a ∷ []) (s ∷ t ∷ ss) like = absurd like.2
+  own-number (a ∷ b ∷ ws) (s ∷ []) like = absurd like.2
+  own-number (a ∷ b ∷ ws) (s ∷ t ∷ ss) like = own-number (b ∷ ws) (t ∷ ss) like.2
+
+  -- the context of the scope of an enum, where the walk comes to it
+  enum-number : (place : Occurrence) (e : At) → Comes root place e → is_root e.role ≡ false → is_enum (out-Node e.node).kind ≡ true → IsNumber place e.left
+  enum-number place e comes below enum = later e comes ((λ j. cond (enum-opens e.role (out-Node e.node).kind (is_there (out-Node e.node).children 0) enum j && not (below j)) 1 0)) refl
+
+  module _ (seen : Seen) (left : ℕ) (comes : Comes root seen.at (record { role = seen.role; node = seen.node; left = left })) where
+    abbrev walk : At
+    walk = record { role = seen.role; node = seen.node; left = left }
+
+    item-number : (k : ℕ) (x : Node) → slice_get (out-Node seen.node).children k ≡ Some x → (exported : Bool) → is_export (out-Node x).kind ≡ exported → (node : Node) → enum_of x ≡ Some node
+        → IsNumber (place_of seen (origin.enum_at k exported)) (step walk k x).left
+    item-number k x at false here node is =
+        let enum = plain-enum x here node is in
+        enum-number (seen.at ++ k ∷ []) (step walk k x) (comes-next root seen.at walk comes k x at) (role_by-below seen.role (out-Node seen.node).kind (is_there (out-Node seen.node).children 1) k) enum
+    item-number k x at true here node is =
+        let behind = exported-enum x here node is in
+        let e = step walk k x in
+        let there : Comes root ((seen.at ++ k ∷ []) ++ 0 ∷ []) (step e 0 node) = comes-next root (seen.at ++ k ∷ []) e (comes-next root seen.at walk comes k x at) 0 node behind.0 in
+        let none : e.left - 0 ≡ e.left = omega arith in
+        let same : (step e 0 node).left ≡ e.left =
+        left_for-first (role_in e.role x) 0 (out-Node x).children (e.left - taken e.role x)
+        ∙ ap (λ (b : Bool). e.left - cond (b && not (is_root e.role)) 1 0) (export-opens e.role (out-Node x).kind (is_there (out-Node x).children 0) here) ∙ none in
+        subst (λ (l : ℕ). IsNumber (seen.at ++ k ∷ 0 ∷ []) l) same
+        (subst (λ (p : Occurrence). IsNumber p (step e 0 node).left) (append_assoc seen.at (k ∷ []) (0 ∷ []))
+        (enum-number ((seen.at ++ k ∷ []) ++ 0 ∷ []) (step e 0 node) there (role_by-below e.role (out-Node x).kind (is_there (out-Node x).children 1) 0) behind.1))
+
+    -- scopes that are shown are in force as they are seen
+    like-shown : (p : Place) → p.role ≡ seen.role → Like seen.around p.scopes → (xs : List Shown) → AllThere (out-Node seen.node).children xs
+        → Like (map (shown_around seen) xs) (map (shown_scope top p seen.node left) xs)
+    like-shown p role like [] there = tt
+    like-shown p role like (x ∷ xs) there = (by x.origin there.0, refl, like-shown p role like xs there.1)
+      where
+        by : (o : Origin) → IsThere (out-Node seen.node).children o → IsNumber (place_of seen o) (context_of top p seen.node left o)
+        by origin.innermost is = own-number seen.around p.scopes like
+        by (origin.enum_at k exported) is =
+            subst (λ (r : Role). IsNumber (place_of seen (origin.enum_at k exported)) (left_for (role_in r seen.node) 0 (out-Node seen.node).children (left - taken r seen.node) k)) (sym role)
+            (item-number k is.0 is.1 exported is.2.0 is.2.1.0 is.2.1.1)
+
+    like-waiting : (p : Place) → p.role ≡ seen.role → Like seen.around p.scopes → Like seen.waiting p.waiting → (i : ℕ)
+        → Like (cond (is_export (out-Node seen.node).kind) seen.waiting (map (shown_around seen) (waiting seen.node i)))
+        (cond (is_export (out-Node seen.node).kind) p.waiting (map (shown_scope top p seen.node left) (waiting seen.node i)))
+    like-waiting p role like also i = by (is_export (out-Node seen.node).kind)
+      where
+        by : (b : Bool) → Like (cond b seen.waiting (map (shown_around seen) (waiting seen.node i))) (cond b p.waiting (map (shown_scope top p seen.node left) (waiting seen.node i)))
+        by true = also
+        by false = like-shown p role like (waiting seen.node i) (waiting-there (out-Node seen.node).kind (out-Node seen.node).children i)
 
   -- the context of the scope that is opened where the walk is
   number-of : (seen : Seen) (left : ℕ) (is : Bool) → is_root seen.role ≡ is → (is_root seen.role ≡ true → seen.at ≡ []) → Comes root seen.at (record { role = seen.role; node = seen.node; left = left })
@@ -169,21 +312,27 @@ module _ (unresolved top : ℕ) (root : At) where
     pub role : place.role ≡ end.role
     pub like : Like end.around place.scopes
 
-  pub walks : (path : Occurrence) (seen : Seen) (ss : List Scope) (left : ℕ) (end : Seen) → Leads seen path end → Like seen.around ss → (is_root seen.role ≡ true → seen.at ≡ [])
-      → Comes root seen.at (record { role = seen.role; node = seen.node; left = left }) → Found (resolved_at unresolved top seen.node (record { role = seen.role; scopes = ss }) left) path end
-  walks [] seen ss left end leads like start comes =
-      let place : Place = record { role = seen.role; scopes = ss } in
+  pub walks : (path : Occurrence) (seen : Seen) (ss ts : List Scope) (left : ℕ) (end : Seen) → Leads seen path end → Like seen.around ss → Like seen.waiting ts → (is_root seen.role ≡ true → seen.at ≡ [])
+      → Comes root seen.at (record { role = seen.role; node = seen.node; left = left }) → Found (resolved_at unresolved top seen.node (record { role = seen.role; scopes = ss; waiting = ts }) left) path end
+  walks [] seen ss ts left end leads like also start comes =
+      let place : Place = record { role = seen.role; scopes = ss; waiting = ts } in
       subst (λ (z : Seen). Found (resolved_at unresolved top seen.node place left) [] z) (sym leads)
       (record { place = place; node = resolved_at unresolved top seen.node place left; is_at = refl; kind = resolved-kind seen.node place left; role = refl; like = like })
-  walks (i ∷ path) seen ss left end leads like start comes =
-      let place : Place = record { role = seen.role; scopes = ss } in
+  walks (i ∷ path) seen ss ts left end leads like also start comes =
+      let place : Place = record { role = seen.role; scopes = ss; waiting = ts } in
       let child = leads.0 in
       let less : ℕ = left_for (role_in seen.role seen.node) 0 (out-Node seen.node).children (left - taken seen.role seen.node) i in
-      let says : (scope_at top place seen.node left).states ≡ stated (opened_by seen).declared = (λ j. stated (names seen.role (nearest-like seen.around ss like j) seen.node)) in
+      let says : (scope_at top place seen.node left).states ≡ stated (opened_by seen).declared = (λ j. stated (visible_names seen.role (nearest-like seen.around ss like j) seen.node)) in
       let inner : Like (child_of seen i child).around (inside top place seen.node left i).scopes =
-      like-inside (opens seen.role seen.node) (covers seen.role (out-Node seen.node).kind i) seen.around ss (opened_by seen) (scope_at top place seen.node left) like
-      (number-of seen left (is_root seen.role) refl start comes) says in
-      let f = walks path (child_of seen i child) (inside top place seen.node left i).scopes less end leads.2 inner
+      like-append (cond (opens seen.role seen.node && covers seen.role (out-Node seen.node).kind i) (with_opened seen) seen.around)
+      (cond (opens seen.role seen.node && covers seen.role (out-Node seen.node).kind i) (with_scope top place seen.node left) ss)
+      (map (shown_around seen) (shown seen.node i)) (shown_scopes top place seen.node left i)
+      (like-inside (opens seen.role seen.node) (covers seen.role (out-Node seen.node).kind i) seen.around ss (cond (is_enum (out-Node seen.node).kind) seen.waiting []) (cond (is_enum (out-Node seen.node).kind) ts [])
+      (opened_by seen) (scope_at top place seen.node left) like (like-if (is_enum (out-Node seen.node).kind) seen.waiting ts also)
+      (number-of seen left (is_root seen.role) refl start comes) says)
+      (like-shown seen left comes place refl like (shown seen.node i) (shown-there (out-Node seen.node).kind (out-Node seen.node).children i)) in
+      let waits : Like (child_of seen i child).waiting (inside top place seen.node left i).waiting = like-waiting seen left comes place refl like also i in
+      let f = walks path (child_of seen i child) (inside top place seen.node left i).scopes (inside top place seen.node left i).waiting less end leads.2 inner waits
       (λ e. absurd (true-false (sym e ∙ role_by-below seen.role (out-Node seen.node).kind (is_there (out-Node seen.node).children 1) i)))
       (comes-next root seen.at (record { role = seen.role; node = seen.node; left = left }) comes i child leads.1) in
       record {
@@ -296,7 +445,7 @@ module _ (unresolved top left : ℕ) (tree : Node) (unresolved_above : left < un
   number-one p q c d (later e comes one at) (later f also two there) same = one-scope p q root e f enough comes also one two (at ∙ same ∙ sym there)
 
   found : (o : Occurrence) (x : Identifier tree o) → Found unresolved top root (resolved unresolved top left tree) o x.seen
-  found o x = walks unresolved top root o (root_of tree) [] left x.seen x.leads tt (λ e. refl) refl
+  found o x = walks unresolved top root o (root_of tree) [] [] left x.seen x.leads tt tt (λ e. refl) refl
 
   -- the context that its scopes give an identifier
   abbrev given_to : (o : Occurrence) (x : Identifier tree o) → ℕ

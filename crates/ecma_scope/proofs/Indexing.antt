@@ -1,5 +1,5 @@
 -- One declaration more, and what is stated of texts.
-use Rattle.std.proofs.Common.{◌≡◌, ℕ, ◌+◌, Bool, true, false, ◌&&◌, ◌||◌, cond, List, [], ◌∷◌, ◌++◌, take, length, Option, Some, None, refl, sym, ap, ◌∙◌, slice_get, bytes_eq, unwrap_or, arith}
+use Rattle.std.proofs.Common.{◌≡◌, ℕ, ◌+◌, Bool, true, false, ◌&&◌, ◌||◌, cond, List, [], ◌∷◌, ◌++◌, take, length, Option, Some, None, refl, sym, ap, ◌∙◌, slice_get, bytes_eq, unwrap_or, append_assoc, arith}
 use Rattle.std.specs.List.{list_any}
 use Rattle.std.proofs.lemmas.List.{take_all}
 use Rattle.std.proofs.lemmas.List.Folds.{list_any-append}
@@ -58,19 +58,33 @@ stated-last ds d text =
     (λ j. cond (list_any-append (λ (e : Declaration). bytes_eq e.sym text) ds (d ∷ []) j) (Some (list_any-append (λ (e : Declaration). bytes_eq e.sym text && e.stays) ds (d ∷ []) j)) None)
     ∙ more ds d text (bytes_eq d.sym text) refl
 
--- the index of the first i, with the one at i
-pub indexed-next : (states after : List ℕ → Option Bool) (ds : List Declaration) (i : ℕ) (d : Declaration) → slice_get ds i ≡ Some d → ((text : List ℕ) → states text ≡ stated (take i ds) text)
-    → ((text : List ℕ) → after text ≡ adds states d text) → (text : List ℕ) → after text ≡ stated (take (i + 1) ds) text
-indexed-next states after ds i d at before adding text =
+abbrev Says : (List ℕ → Option Bool) → List Declaration → Type 0
+Says states ds = (text : List ℕ) → states text ≡ stated ds text
+
+-- the index has what was there, and the first i; with the one at i
+abbrev pub HasAdded : (List ℕ → Option Bool) → (List ℕ → Option Bool) → List Declaration → Type 0
+HasAdded old now more = (before : List Declaration) → Says old before → Says now (before ++ more)
+
+append-none : (ds : List Declaration) → ds ++ [] ≡ ds
+append-none [] = refl
+append-none (d ∷ ds) = ap (λ (z : List Declaration). d ∷ z) (append-none ds)
+
+pub added-none : (old : List ℕ → Option Bool) (ds : List Declaration) → HasAdded old old (take 0 ds)
+added-none old [] before says text = says text ∙ ap (λ (z : List Declaration). stated z text) (sym (append-none before))
+added-none old (d ∷ ds) before says text = says text ∙ ap (λ (z : List Declaration). stated z text) (sym (append-none before))
+
+pub added-next : (old now after : List ℕ → Option Bool) (ds : List Declaration) (i : ℕ) (d : Declaration) → slice_get ds i ≡ Some d → HasAdded old now (take i ds)
+    → ((text : List ℕ) → after text ≡ adds now d text) → HasAdded old after (take (i + 1) ds)
+added-next old now after ds i d at so_far adding before says text =
     adding text
-    ∙ (λ j. cond (bytes_eq d.sym text) (Some (d.stays || unwrap_or (before d.sym j) false)) (before text j))
-    ∙ sym (stated-last (take i ds) d text)
-    ∙ ap (λ (z : List Declaration). stated z text) (sym (take-item ds i d at))
+    ∙ (λ j. cond (bytes_eq d.sym text) (Some (d.stays || unwrap_or (so_far before says d.sym j) false)) (so_far before says text j))
+    ∙ sym (stated-last (before ++ take i ds) d text)
+    ∙ ap (λ (z : List Declaration). stated z text) (append_assoc before (take i ds) (d ∷ []) ∙ ap (λ (z : List Declaration). before ++ z) (sym (take-item ds i d at)))
 
-pub indexed-all : (states : List ℕ → Option Bool) (ds : List Declaration) (i : ℕ) → length ds ≡ i → ((text : List ℕ) → states text ≡ stated (take i ds) text) → (text : List ℕ) → states text ≡ stated ds text
-indexed-all states ds i all before text = before text ∙ ap (λ (z : List Declaration). stated z text) (take_all i ds (omega arith))
+pub added-all : (old now : List ℕ → Option Bool) (ds : List Declaration) (i : ℕ) → length ds ≡ i → HasAdded old now (take i ds) → HasAdded old now ds
+added-all old now ds i all so_far before says text = so_far before says text ∙ ap (λ (z : List Declaration). stated (before ++ z) text) (take_all i ds (omega arith))
 
-pub ruleset indexing = (indexed-all)
+pub ruleset indexing = (added-all)
 
 -- a text is stated where it is declared
 by-stated : (b k : Bool) → is_stated (cond b (Some k) None) ≡ b

@@ -4,6 +4,11 @@ pub mod Locating
 pub mod Indexing
 pub mod Framing
 pub mod Resolving
+pub mod Showing
+pub mod Items
+pub mod ShownAlike
+pub mod Unwaited
+pub mod Listed
 pub mod Opening
 pub mod Counting
 pub mod Drawing

@@ -15,7 +15,8 @@ use Rattle.ecma_scope.specs.declared.form.Sought.{Sought}
 use Rattle.ecma_scope.specs.Scopes.{is_ambient}
 use Rattle.ecma_scope.specs.Declarations.{declarations, declared_here, declared_step, found_at, found_in, holds_vars, is_own, names, own_part, sought_in, vars_of}
 use Rattle.ecma_scope.specs.Conflicts.{is_further_out, mark, marked, may_be_merged, may_merge, meeting, merges, passing}
-use Rattle.ecma_scope.specs.Located.{declaration_of, declarations_of, has_merged, located, located_here, located_marked, located_meeting, located_names, located_passing, located_vars}
+use Rattle.ecma_scope.specs.Located.{declaration_of, declarations_of, has_merged, located, located_here, located_marked, located_meeting, located_names, located_passing, located_vars, located_visible}
+use Rattle.ecma_scope.specs.Shown.{is_enum, visible_names}
 
 abbrev Alike : Node → Type 0
 Alike n = (sought : Sought) → declarations_of (located n sought) ≡ declarations n sought
@@ -80,6 +81,10 @@ names-alike r around n =
     filter-alike (is_own r around) (located n own ++ located_vars r (not (is_ambient r)) n)
     ∙ ap (filter (is_own r around))
     (map-append declaration_of (located n own) (located_vars r (not (is_ambient r)) n) ∙ (λ j. declarations-alike n own j ++ vars-alike r (not (is_ambient r)) n j))
+
+pub visible-alike : (r : Role) (around : List ℕ → Option Bool) (n : Node) → declarations_of (located_visible r around n) ≡ visible_names r around n
+visible-alike r around n =
+    if-alike (is_enum (out-Node n).kind) [] (located_names r around n) ∙ ap (λ (ds : List Declaration). cond (is_enum (out-Node n).kind) [] ds) (names-alike r around n)
 
 pub passing-alike : (r : Role) (n : Node) → declarations_of (located_passing r n) ≡ passing r n
 passing-alike r n =

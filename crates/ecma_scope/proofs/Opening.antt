@@ -1,18 +1,24 @@
 -- What the resolver makes of a node once its children are in their contexts.
-use Rattle.std.proofs.Common.{◌≡◌, ℕ, ◌+◌, ◌-◌, ◌<◌, Bool, true, false, ◌&&◌, not, cond, List, [], ◌∷◌, ◌++◌, refl, sym, ap, ap₂, ◌∙◌, arith}
-use Rattle.std.proofs.lemmas.List.{map-append}
+use Rattle.std.proofs.Common.{◌≡◌, ℕ, ◌+◌, ◌-◌, ◌<◌, Bool, true, false, ◌&&◌, not, cond, List, [], ◌∷◌, ◌++◌, map, refl, sym, ap, ap₂, ◌∙◌, arith}
 use Rattle.ecma_kind.specs.declared.kind.Kind.{Kind}
+use Rattle.ecma_kind.specs.declared.kind.Kind.TheVariants as kind
 use Rattle.ecma_tree.specs.Nodes.{node_of}
+use Rattle.ecma_tree.specs.Sorted.{is_list}
 use Rattle.ecma_tree.specs.declared.node.Node.{Node, Node-F, out-Node, roll-Node}
 use Rattle.ecma_tree.specs.declared.node.Node.TheViews.{out-roll-Node}
 use Rattle.ecma_tree.proofs.Layers.{from_leaves_out}
+use Rattle.ecma_scope.specs.declared.enums.Waiting.{Waiting}
 use Rattle.ecma_scope.specs.declared.frame.Frame.{Frame}
 use Rattle.ecma_scope.specs.declared.role.Role.{Role}
 use Rattle.ecma_scope.specs.Scopes.{covers, is_root, is_there, opens, role_by, role_in}
-use Rattle.ecma_scope.specs.Declarations.{names, stated}
-use Rattle.ecma_scope.specs.Resolved.{Place, Scope, context_count, count_step, inside, innermost, kind_at, resolve_step, resolved_at, scope_at, taken}
+use Rattle.ecma_scope.specs.Declarations.{stated}
+use Rattle.ecma_scope.specs.declared.enums.Waiting.TheVariants as wait
+use Rattle.ecma_scope.specs.Shown.{is_enum, visible_names}
+use Rattle.ecma_scope.specs.Resolved.{Place, Scope, context_count, count_step, inside, innermost, kind_at, resolve_step, resolved_at, shown_scope, shown_scopes, taken, waiting_scopes, with_scope}
 use Rattle.ecma_scope.specs.Indexed.{states_of}
-use Rattle.ecma_scope.specs.Frames.{children_at, children_below, children_count, place_of, plain_places, scope_of, scope_places, scopes_of, with_children}
+use Rattle.ecma_scope.specs.Frames.{children_at, children_below, children_count, place_of, place_with, scope_of, scope_places, scopes_of, shown_places, waits, with_children}
+use Rattle.ecma_scope.proofs.Resolving.{append-none}
+use Rattle.ecma_scope.proofs.Showing.{opens-exports, role-list, shown-opens, waiting-opens, within}
 
 pub context_count-out : (n : Node) (r : Role) → context_count n r ≡ taken r n + children_count n r
 context_count-out n r = ap (λ f. f r) (from_leaves_out (Role → ℕ) count_step n)
@@ -65,27 +71,56 @@ module _ (unresolved top : ℕ) where
       ap (λ (k : Kind). roll-Node (record { span = (out-Node m).span; kind = k; children = (out-Node m).children })) own
       ∙ in_context n m place (children_below unresolved top place n left) is ∙ sym (resolved_at-out n place left)
 
-  pub below-plain : (n : Node) (role : Role) (frames : List Frame) (left : ℕ) → opens role n ≡ false
-      → children_below unresolved top (place_of role frames) n left ≡ children_at unresolved top (plain_places role frames n) n left
-  below-plain n role frames left closed =
+  pub below-plain : (n : Node) (role : Role) (frames : List Frame) (waiting : Waiting) (left : ℕ) → opens role n ≡ false
+      → children_below unresolved top (place_with role frames waiting) n left ≡ children_at unresolved top (shown_places top role frames waiting n left) n left
+  below-plain n role frames waiting left closed =
       let none : left - 0 ≡ left = omega arith in
-      let shape : Bool → ℕ → List Node = λ b l. children_at unresolved top (λ i. record { role = role_in role n i; scopes = cond (b && covers role (out-Node n).kind i) (scopes_of frames ++ scope_at top (place_of role frames) n left ∷ []) (scopes_of frames) }) n l in
+      let here : Place = place_with role frames waiting in
+      let shape : Bool → ℕ → List Node = λ b l. children_at unresolved top (λ i. record {
+        role = role_in role n i;
+        scopes = cond (b && covers role (out-Node n).kind i) (with_scope top here n left) (scopes_of frames) ++ shown_scopes top here n left i;
+        waiting = waiting_scopes top here n left i;
+      }) n l in
       ap (λ (b : Bool). shape b (left - cond (b && not (is_root role)) 1 0)) closed ∙ ap (λ (l : ℕ). shape false l) none
 
-  scope-same : (n : Node) (role : Role) (frames : List Frame) (scope : Frame) (left : ℕ) → scope.ctxt ≡ cond (is_root role) top left
-      → ((text : List ℕ) → states_of scope.index text ≡ stated (names role (innermost (scopes_of frames)) n) text) → scopes_of frames ++ scope_at top (place_of role frames) n left ∷ [] ≡ scopes_of (frames ++ scope ∷ [])
-  scope-same n role frames scope left ctxt own =
-      (λ j. scopes_of frames ++ record { ctxt = sym ctxt j; states = λ text. sym (own text) j } ∷ []) ∙ sym (map-append scope_of frames (scope ∷ []))
+  -- what waits for the scope of a node
+  abbrev pub within_of : Node → Waiting → Waiting
+  within_of n waiting = cond (is_enum (out-Node n).kind) waiting wait.Nothing
 
-  pub below-opens : (n : Node) (role : Role) (frames : List Frame) (scope : Frame) (left less : ℕ) → opens role n ≡ true
-      → scope.ctxt ≡ cond (is_root role) top left → ((text : List ℕ) → states_of scope.index text ≡ stated (names role (innermost (scopes_of frames)) n) text) → less + cond (is_root role) 0 1 ≡ left
-      → children_below unresolved top (place_of role frames) n left ≡ children_at unresolved top (scope_places role frames scope n) n less
-  below-opens n role frames scope left less opened ctxt own count =
-      let shape : Bool → List Scope → ℕ → List Node = λ b scopes l. children_at unresolved top (λ i. record { role = role_in role n i; scopes = cond (b && covers role (out-Node n).kind i) scopes (scopes_of frames) }) n l in
-      let scopes = scope-same n role frames scope left ctxt own in
+  scope-same : (n : Node) (role : Role) (frames : List Frame) (waiting : Waiting) (scope : Frame) (left : ℕ) → scope.ctxt ≡ cond (is_root role) top left
+      → ((text : List ℕ) → states_of scope.index text ≡ stated (visible_names role (innermost (scopes_of frames)) n) text)
+      → with_scope top (place_with role frames waiting) n left ≡ scopes_of frames ++ waits (within_of n waiting) ++ scope_of scope ∷ []
+  scope-same n role frames waiting scope left ctxt own =
+      (λ j. scopes_of frames ++ cond (is_enum (out-Node n).kind) (waits waiting) [] ++ record { ctxt = sym ctxt j; states = λ text. sym (own text) j } ∷ []) ∙ sym (within role frames waiting n scope)
+
+  pub below-opens : (n : Node) (role : Role) (frames : List Frame) (waiting : Waiting) (scope : Frame) (left less : ℕ) → opens role n ≡ true
+      → scope.ctxt ≡ cond (is_root role) top left → ((text : List ℕ) → states_of scope.index text ≡ stated (visible_names role (innermost (scopes_of frames)) n) text) → less + cond (is_root role) 0 1 ≡ left
+      → children_below unresolved top (place_with role frames waiting) n left ≡ children_at unresolved top (scope_places role frames (within_of n waiting) scope n) n less
+  below-opens n role frames waiting scope left less opened ctxt own count =
+      let here : Place = place_with role frames waiting in
+      let k : Kind = (out-Node n).kind in
+      let named : Bool = is_there (out-Node n).children 0 in
+      let shape : Bool → List Scope → ℕ → List Node = λ b scopes l. children_at unresolved top (λ i. record {
+        role = role_in role n i;
+        scopes = cond (b && covers role k i) scopes (scopes_of frames) ++ shown_scopes top here n left i;
+        waiting = waiting_scopes top here n left i;
+      }) n l in
+      let inner : List Scope = scopes_of frames ++ waits (within_of n waiting) ++ scope_of scope ∷ [] in
+      let nothing : (i : ℕ) → cond (covers role k i) inner (scopes_of frames) ++ shown_scopes top here n left i ≡ cond (covers role k i) inner (scopes_of frames) =
+      λ i. (λ j. cond (covers role k i) inner (scopes_of frames) ++ map (shown_scope top here n left) (shown-opens role k named (out-Node n).children i opened j))
+      ∙ append-none (cond (covers role k i) inner (scopes_of frames)) in
+      let unwaited : (i : ℕ) → waiting_scopes top here n left i ≡ [] =
+      λ i. (λ j. cond (opens-exports role k named opened j) (waits waiting) (map (shown_scope top here n left) (waiting-opens role k named (out-Node n).children i opened j))) in
+      let scopes = scope-same n role frames waiting scope left ctxt own in
       let rest = less-left (is_root role) left less count in
-      ap (λ (b : Bool). shape b (scopes_of frames ++ scope_at top (place_of role frames) n left ∷ []) (left - cond (b && not (is_root role)) 1 0)) opened
+      ap (λ (b : Bool). shape b (with_scope top here n left) (left - cond (b && not (is_root role)) 1 0)) opened
       ∙ ap₂ (λ (s : List Scope) (l : ℕ). shape true s l) scopes rest
+      ∙ (λ j. children_at unresolved top (λ i. record { role = role_in role n i; scopes = nothing i j; waiting = unwaited i j }) n less)
+
+-- an identifier does not ask what waits
+pub kind-anywhere : (unresolved : ℕ) (role : Role) (frames : List Frame) (waiting : Waiting) (k : Kind) → kind_at unresolved (place_of role frames) k ≡ kind_at unresolved (place_with role frames waiting) k
+kind-anywhere unresolved role frames waiting (kind.Ident name ctxt optional) = refl
+kind-anywhere unresolved role frames waiting _ = refl
 
 -- how many contexts a scope takes, and what is left
 pub count-opens : (n : Node) (role : Role) (left less rest : ℕ) → opens role n ≡ true → less + cond (is_root role) 0 1 ≡ left → rest + children_count n role ≡ less → rest + context_count n role ≡ left
@@ -118,3 +153,7 @@ same-role-sourced n m role inner sourced i kinds is found = found ∙ (λ j. rol
 
 pub same-cover : (n m : Node) (role : Role) (covered : Bool) (i : ℕ) → (out-Node m).kind ≡ (out-Node n).kind → covered ≡ covers role (out-Node m).kind i → covered ≡ covers role (out-Node n).kind i
 same-cover n m role covered i kinds found = found ∙ (λ j. covers role (kinds j) i)
+
+-- so in a list, where no source makes one
+pub item-role : (n m : Node) (role inner : Role) (i : ℕ) → is_list (out-Node n).kind ≡ true → (out-Node m).kind ≡ (out-Node n).kind → inner ≡ role_by role (out-Node m).kind false i → inner ≡ role_in role n i
+item-role n m role inner i list kinds found = found ∙ (λ j. role_by role (kinds j) false i) ∙ role-list role (out-Node n).kind false (is_there (out-Node n).children 1) i list

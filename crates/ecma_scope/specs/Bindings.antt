@@ -1,12 +1,14 @@
 -- What an identifier names: the nearest scope around it that declares its text, where one of the declarations there is a value that stays.
-use Rattle.std.specs.Prelude.{◌≡◌, ◌↔◌, ◌<◌, ◌≤◌, ◌≢◌, ℕ, Bool, true, false, ◌&&◌, List, [], ◌∷◌, ◌++◌, Option, Some, None, cond, slice_get}
+use Rattle.std.specs.Prelude.{◌≡◌, ◌↔◌, ◌<◌, ◌≤◌, ◌≢◌, ℕ, Bool, true, false, ◌&&◌, List, [], ◌∷◌, ◌++◌, map, Option, Some, None, cond, slice_get}
 use Rattle.ecma_kind.specs.declared.kind.Kind.TheVariants as kind
 use Rattle.ecma_tree.specs.declared.node.Node.{Node, out-Node}
 use Rattle.ecma_scope.specs.declared.form.Declaration.{Declaration}
 use Rattle.ecma_scope.specs.declared.role.Role.{Role}
 use Rattle.ecma_scope.specs.declared.role.Role.TheVariants as role
 use Rattle.ecma_scope.specs.Scopes.{covers, opens, role_in}
-use Rattle.ecma_scope.specs.Declarations.{declares, keeps, names, stated}
+use Rattle.ecma_scope.specs.Declarations.{declares, keeps, stated}
+use Rattle.ecma_scope.specs.Shown as origin
+use Rattle.ecma_scope.specs.Shown.{Origin, Shown, is_enum, is_export, shown, shown_names, visible_names, waiting}
 use Rattle.ecma_scope.specs.Resolved.{contexts, is_name, resolved}
 
 -- an occurrence: the indexes of the children that lead from the root to a node
@@ -18,11 +20,13 @@ pub record Around : Type 0 where
   pub at : Occurrence
   pub declared : List Declaration
 
--- a node with what is around it: where it stands, what it is to its parent, and the scopes that it stands in, the innermost last
+-- a node with what is around it: where it stands, what it is to its parent, and the scopes that it stands in, the innermost last; and those that the body of
+-- the enum stands in that it is a part of
 pub record Seen : Type 0 where
   pub at : Occurrence
   pub role : Role
   pub around : List Around
+  pub waiting : List Around
   pub node : Node
 
 abbrev pub nearest : List Around → List ℕ → Option Bool
@@ -30,9 +34,28 @@ nearest [] sym = None
 nearest (scope ∷ []) sym = stated scope.declared sym
 nearest (scope ∷ inner ∷ scopes) sym = nearest (inner ∷ scopes) sym
 
--- the scope that a node opens
+-- the scope that a node opens, as all of its children see it
 abbrev pub opened_by : Seen → Around
-opened_by seen = record { at = seen.at; declared = names seen.role (nearest seen.around) seen.node }
+opened_by seen = record { at = seen.at; declared = visible_names seen.role (nearest seen.around) seen.node }
+
+-- that of an enum stands further in than those that waited for it
+abbrev pub with_opened : Seen → List Around
+with_opened seen = seen.around ++ cond (is_enum (out-Node seen.node).kind) seen.waiting [] ++ opened_by seen ∷ []
+
+-- where the innermost scope is opened
+abbrev pub own_place : List Around → Occurrence
+own_place [] = []
+own_place (scope ∷ []) = scope.at
+own_place (scope ∷ inner ∷ scopes) = own_place (inner ∷ scopes)
+
+abbrev pub place_of : Seen → Origin → Occurrence
+place_of seen origin.innermost = own_place seen.around
+place_of seen (origin.enum_at i false) = seen.at ++ i ∷ []
+place_of seen (origin.enum_at i true) = seen.at ++ i ∷ 0 ∷ []
+
+-- a scope that is shown
+abbrev pub shown_around : Seen → Shown → Around
+shown_around seen s = record { at = place_of seen s.origin; declared = shown_names s }
 
 -- the child at an index, with what is around it
 abbrev pub child_of : Seen → ℕ → Node → Seen
@@ -40,7 +63,9 @@ child_of seen i child =
     record {
       at = seen.at ++ i ∷ [];
       role = role_in seen.role seen.node i;
-      around = cond (opens seen.role seen.node && covers seen.role (out-Node seen.node).kind i) (seen.around ++ opened_by seen ∷ []) seen.around;
+      around = cond (opens seen.role seen.node && covers seen.role (out-Node seen.node).kind i) (with_opened seen) seen.around
+          ++ map (shown_around seen) (shown seen.node i);
+      waiting = cond (is_export (out-Node seen.node).kind) seen.waiting (map (shown_around seen) (waiting seen.node i));
       node = child;
     }
 
@@ -50,7 +75,7 @@ Leads seen [] end = end ≡ seen
 Leads seen (i ∷ path) end = (child : Node) × (slice_get (out-Node seen.node).children i ≡ Some child) × Leads (child_of seen i child) path end
 
 abbrev pub root_of : Node → Seen
-root_of tree = record { at = []; role = role.Root; around = []; node = tree }
+root_of tree = record { at = []; role = role.Root; around = []; waiting = []; node = tree }
 
 -- an identifier stands at an occurrence: its text, and the scopes around it
 pub record Identifier (tree : Node) (occurrence : Occurrence) : Type 0 where
@@ -70,6 +95,7 @@ NoneDeclares (scope ∷ scopes) sym = (declares scope.declared sym ≡ false) ×
 -- of these scopes the innermost that declares the text is the one opened at a place, and one of the declarations there is a value that stays
 --   let a; { let a; { a; } }   // the last a is bound in the block
 --   let b; namespace N { declare let b: T; b; }   // the last b is free: what shadows the first one goes
+--   enum E { A, B = A }   // each A is bound in the body of the enum
 pub record IsBound (around : List Around) (sym : List ℕ) (place : Occurrence) : Type 0 where
   pub outer : List Around
   pub scope : Around

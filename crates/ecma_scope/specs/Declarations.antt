@@ -116,7 +116,7 @@ in_scope stays value (kind.TsNamespaceDecl declare global) i = cond value (seek_
 in_scope stays value _ i = None
 
 -- the members of an enum
---   enum E { A, B = A }   // E declares A and B
+--   enum E { A, B = A }   // its body declares A and B
 unfoldable pub in_member : Bool → Kind → ℕ → Option Sought
 in_member stays kind.List i = seek part.Member stays
 in_member stays kind.TsEnumMember i = seek_at 0 i (part.Name form.Member) stays
@@ -140,9 +140,16 @@ abbrev named_by : Part → List ℕ → Bool → List Declaration
 named_by (part.Name f) sym stays = record { sym = sym; form = f; stays = stays } ∷ []
 named_by _ sym stays = []
 
+-- the name of a member may be a text
+--   enum E { "A" = 1, B = A }
+abbrev pub member_by : Part → List ℕ → Bool → List Declaration
+member_by (part.Name form.Member) text stays = record { sym = text; form = form.Member; stays = stays } ∷ []
+member_by _ text stays = []
+
 -- an identifier where names are looked for declares its text
 unfoldable pub declared_here : Sought → Kind → List Declaration
 declared_here sought (kind.Ident sym ctxt optional) = named_by sought.part sym sought.stays
+declared_here sought (kind.Str text raw) = member_by sought.part text sought.stays
 declared_here sought _ = []
 
 abbrev pub found_at : Option Sought → (Sought → List Declaration) → List Declaration

@@ -1,5 +1,6 @@
 pub mod Scopes
 pub mod Declarations
+pub mod Shown
 pub mod Resolved
 pub mod Indexed
 pub mod Frames

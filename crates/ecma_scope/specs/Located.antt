@@ -10,6 +10,7 @@ use Rattle.ecma_scope.specs.declared.form.Part.TheVariants as part
 use Rattle.ecma_scope.specs.declared.form.Sought.{Sought}
 use Rattle.ecma_scope.specs.Scopes.{is_ambient}
 use Rattle.ecma_scope.specs.Declarations.{declared_here, holds_vars, is_own, own_part, sought_in}
+use Rattle.ecma_scope.specs.Shown.{is_enum}
 use Rattle.ecma_scope.specs.Conflicts.{is_further_out, mark, may_be_merged, passing}
 
 abbrev pub declaration_of : Located → Declaration
@@ -37,6 +38,10 @@ abbrev pub located_names : Role → (List ℕ → Option Bool) → Node → List
 located_names r around node =
     filter (λ l. is_own r around l.declaration)
     (located node (record { part = own_part r; stays = not (is_ambient r) }) ++ located_vars r (not (is_ambient r)) node)
+
+-- so those of `visible_names`
+abbrev pub located_visible : Role → (List ℕ → Option Bool) → Node → List Located
+located_visible r around node = if is_enum (out-Node node).kind then [] else located_names r around node
 
 -- so those of `passing`
 abbrev pub located_passing : Role → Node → List Located

@@ -1,5 +1,5 @@
 -- The tree with contexts: one context a scope, handed out in the order of the text, and each identifier in that of the scope that its text names.
-use Rattle.std.specs.Prelude.{ℕ, suc, ◌+◌, ◌-◌, Bool, true, false, ◌&&◌, not, List, [], ◌∷◌, ◌++◌, Option, Some, None, cond, ◌≢◌, ◌<◌, ◌≤◌}
+use Rattle.std.specs.Prelude.{ℕ, zero, suc, ◌+◌, ◌-◌, Bool, true, false, ◌&&◌, not, List, [], ◌∷◌, ◌++◌, map, Option, Some, None, cond, ◌≢◌, ◌<◌, ◌≤◌}
 use Rattle.ecma_kind.specs.declared.kind.Kind.{Kind}
 use Rattle.ecma_kind.specs.declared.kind.Kind.TheVariants as kind
 use Rattle.ecma_tree.specs.declared.node.Node.{Node, out-Node}
@@ -7,7 +7,9 @@ use Rattle.ecma_tree.specs.Nodes.{node_of}
 use Rattle.ecma_scope.specs.declared.role.Role.{Role}
 use Rattle.ecma_scope.specs.declared.role.Role.TheVariants as role
 use Rattle.ecma_scope.specs.Scopes.{covers, is_root, opens, role_in}
-use Rattle.ecma_scope.specs.Declarations.{names, stated}
+use Rattle.ecma_scope.specs.Declarations.{stated}
+use Rattle.ecma_scope.specs.Shown as origin
+use Rattle.ecma_scope.specs.Shown.{Origin, Shown, is_enum, is_export, shown, shown_names, visible_names, waiting}
 use Rattle.ecma_tree.specs.Layers.{from_leaves}
 
 -- a scope that is in force: its context, and what it states of a text
@@ -15,10 +17,11 @@ pub record Scope : Type 0 where
   pub ctxt : ℕ
   pub states : List ℕ → Option Bool
 
--- where a node stands: what it is to its parent, and the scopes around it, the innermost last
+-- where a node stands: what it is to its parent, and the scopes around it, the innermost last; and those around the body of the enum that it is a part of
 pub record Place : Type 0 where
   pub role : Role
   pub scopes : List Scope
+  pub waiting : List Scope
 
 -- what the innermost scope states
 abbrev pub innermost : List Scope → List ℕ → Option Bool
@@ -50,17 +53,6 @@ kind_at unresolved place k = k
 abbrev pub taken : Role → Node → ℕ
 taken r node = cond (opens r node && not (is_root r)) 1 0
 
--- what stands around the child at an index, where so many contexts are left
-abbrev pub scope_at : ℕ → Place → Node → ℕ → Scope
-scope_at top place node left = record { ctxt = cond (is_root place.role) top left; states = stated (names place.role (innermost place.scopes) node) }
-
-abbrev pub inside : ℕ → Place → Node → ℕ → ℕ → Place
-inside top place node left i =
-    record {
-      role = role_in place.role node i;
-      scopes = cond (opens place.role node && covers place.role (out-Node node).kind i) (place.scopes ++ scope_at top place node left ∷ []) place.scopes;
-    }
-
 -- how many contexts children take, of which the first is the one at i
 abbrev pub counted : (ℕ → Role) → ℕ → List (Role → ℕ) → ℕ
 counted role_of i [] = 0
@@ -72,6 +64,50 @@ count_step node children r = taken r node + counted (role_in r node) 0 children
 -- how many contexts a node takes, with all below it
 abbrev pub context_count : Node → Role → ℕ
 context_count = from_leaves (Role → ℕ) count_step
+
+-- how many are left for the child at i of those from the one at k on
+abbrev pub left_for : (ℕ → Role) → ℕ → List Node → ℕ → ℕ → ℕ
+left_for role_of k [] left i = left
+left_for role_of k (x ∷ xs) left zero = left
+left_for role_of k (x ∷ xs) left (suc i) = left_for role_of (suc k) xs (left - context_count x (role_of k)) i
+
+-- what stands around the children of a node, where so many contexts are left
+abbrev pub scope_at : ℕ → Place → Node → ℕ → Scope
+scope_at top place node left = record { ctxt = cond (is_root place.role) top left; states = stated (visible_names place.role (innermost place.scopes) node) }
+
+-- the context of the innermost scope
+abbrev pub own_context : ℕ → List Scope → ℕ
+own_context top [] = top
+own_context top (scope ∷ []) = scope.ctxt
+own_context top (scope ∷ inner ∷ scopes) = own_context top (inner ∷ scopes)
+
+-- an enum takes its context before what stands in it
+abbrev pub context_of : ℕ → Place → Node → ℕ → Origin → ℕ
+context_of top place node left origin.innermost = own_context top place.scopes
+context_of top place node left (origin.enum_at i exported) = left_for (role_in place.role node) 0 (out-Node node).children (left - taken place.role node) i
+
+abbrev pub shown_scope : ℕ → Place → Node → ℕ → Shown → Scope
+shown_scope top place node left s = record { ctxt = context_of top place node left s.origin; states = stated (shown_names s) }
+
+abbrev pub shown_scopes : ℕ → Place → Node → ℕ → ℕ → List Scope
+shown_scopes top place node left i = map (shown_scope top place node left) (shown node i)
+
+-- an `export` hands them on
+abbrev pub waiting_scopes : ℕ → Place → Node → ℕ → ℕ → List Scope
+waiting_scopes top place node left i = cond (is_export (out-Node node).kind) place.waiting (map (shown_scope top place node left) (waiting node i))
+
+-- the scope that a node opens; that of an enum stands further in than those that waited for it
+abbrev pub with_scope : ℕ → Place → Node → ℕ → List Scope
+with_scope top place node left = place.scopes ++ cond (is_enum (out-Node node).kind) place.waiting [] ++ scope_at top place node left ∷ []
+
+-- what stands around the child at an index
+abbrev pub inside : ℕ → Place → Node → ℕ → ℕ → Place
+inside top place node left i =
+    record {
+      role = role_in place.role node i;
+      scopes = cond (opens place.role node && covers place.role (out-Node node).kind i) (with_scope top place node left) place.scopes ++ shown_scopes top place node left i;
+      waiting = waiting_scopes top place node left i;
+    }
 
 -- the children, of which the first is the one at i: each takes its contexts before those after it
 abbrev pub placed : (ℕ → Place) → ℕ → List Node → List (Place → ℕ → Node) → ℕ → List Node
@@ -89,7 +125,7 @@ abbrev pub resolved_at : ℕ → ℕ → Node → Place → ℕ → Node
 resolved_at unresolved top = from_leaves (Place → ℕ → Node) (resolve_step unresolved top)
 
 abbrev pub nowhere : Place
-nowhere = record { role = role.Root; scopes = [] }
+nowhere = record { role = role.Root; scopes = []; waiting = [] }
 
 -- the tree with its contexts, where so many are left
 abbrev pub resolved : ℕ → ℕ → ℕ → Node → Node

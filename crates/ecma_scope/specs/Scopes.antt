@@ -110,7 +110,8 @@ opens_by r _ named = false
 abbrev pub opens : Role → Node → Bool
 opens r node = opens_by r (out-Node node).kind (is_there (out-Node node).children 0)
 
--- whether the child at an index stands in the scope that its parent opens: a key does not, nor what `switch` looks at, nor the name of a declared class or enum
+-- whether the child at an index stands in the scope that its parent opens: a key does not, nor what `switch` looks at, nor the name of a declared class or enum;
+-- and of a member its name alone stands in the scope of that name
 --   switch (a) { case a: let a; }   // the first a is another
 --   ({ get [b]() { var b; return b; } });   // so is the first b
 unfoldable pub covers : Role → Kind → ℕ → Bool
@@ -119,5 +120,6 @@ covers r kind.SetterProp i = not (i == 0)
 covers r kind.SwitchStmt i = not (i == 0)
 covers r (kind.ClassDecl declare) i = not (i == 0)
 covers r (kind.TsEnumDecl declare is_const) i = not (i == 0)
+covers r kind.TsEnumMember i = i == 0
 covers r kind.ClassExpr i = not (is_default r && i == 0)
 covers r _ i = true

@@ -1,9 +1,10 @@
 //! A scope that is in force.
 ghost use Rattle.std.specs.Prelude.{◌≡◌, IfOk};
-ghost use Rattle.ecma_scope.specs.Located.{located_names};
+ghost use Rattle.ecma_scope.specs.Located.{located_visible};
 ghost use Rattle.ecma_scope.specs.Resolved.{context_in, innermost};
 ghost use Rattle.ecma_scope.specs.Frames.{scopes_of};
 
+use crate::enums::is_enum;
 use crate::form::Located;
 use crate::index::{Index, empty_index, states};
 use crate::role::Role;
@@ -39,7 +40,7 @@ pub(crate) fn context_in(
     unresolved
 }
 
-/// What the scope that a node opens declares, with these scopes around it.
+/// What all children of a node see of the scope that it opens, with these scopes around it.
 #[tactic(auto, using(crate::proofs::Framing::framing))]
 pub(crate) fn names_inside(
     alloc: Global,
@@ -47,8 +48,11 @@ pub(crate) fn names_inside(
     frames: &ItemList<Frame>,
     node: &Node,
 ) -> Result<ItemList<Located>, NoMemory>
-    ensures { IfOk result (λ own. own ≡ located_names role (innermost (scopes_of frames.now)) node.now) }
+    ensures { IfOk result (λ own. own ≡ located_visible role (innermost (scopes_of frames.now)) node.now) }
 {
+    if is_enum(&node.kind) {
+        return Ok(ItemList::new(alloc));
+    }
     let count = frames.len();
     if count == 0 {
         let none = empty_index(alloc);

@@ -1,5 +1,5 @@
 //! What the declarations of a scope state of texts, found by text.
-ghost use Rattle.std.specs.Prelude.{◌≡◌, None, List, ℕ, IfOk, OnOk, false, unwrap_or};
+ghost use Rattle.std.specs.Prelude.{◌≡◌, ◌++◌, None, List, ℕ, IfOk, OnOk, false, unwrap_or};
 ghost use Rattle.ecma_scope.specs.Declarations.{stated};
 ghost use Rattle.ecma_scope.specs.Indexed.{states_of, adds};
 ghost use Rattle.ecma_scope.specs.Located.{declarations_of};
@@ -58,14 +58,23 @@ fn add(index: &mut Index, name: &Declaration) -> Result<(), NoMemory>
     Ok(())
 }
 
+/// Adds these declarations.
+#[tactic(auto, using(crate::proofs::Indexing::indexing))]
+pub(crate) fn add_all(index: &mut Index, names: &ItemList<Located>) -> Result<(), NoMemory>
+    ensures { OnOk result ((before : List Declaration) → ((text : List ℕ) → states_of index.old text ≡ stated before text) → (text : List ℕ) → states_of index.new text ≡ stated (before ++ declarations_of names.now) text) }
+{
+    for i in 0..names.len() {
+        add(index, &names.at(i).declaration)?;
+    }
+    Ok(())
+}
+
 /// Of these declarations.
 #[tactic(auto, using(crate::proofs::Indexing::indexing))]
 pub(crate) fn index_of(alloc: Global, names: &ItemList<Located>) -> Result<Index, NoMemory>
     ensures { IfOk result (λ index. (sym : List ℕ) → states_of index sym ≡ stated (declarations_of names.now) sym) }
 {
     let mut index = index_for(alloc, names.len())?;
-    for i in 0..names.len() {
-        add(&mut index, &names.at(i).declaration)?;
-    }
+    add_all(&mut index, names)?;
     Ok(index)
 }

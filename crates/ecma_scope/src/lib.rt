@@ -3,6 +3,7 @@
 
 mod clash;
 mod conflicts;
+mod enums;
 mod error;
 mod form;
 mod frame;

@@ -1,13 +1,14 @@
 //! The names that a scope declares.
-ghost use Rattle.std.specs.Prelude.{◌≡◌, ◌++◌, OnOk};
+ghost use Rattle.std.specs.Prelude.{◌≡◌, ◌++◌, [], ◌∷◌, OnOk, map};
 ghost use Rattle.ecma_tree.specs.declared.node.Node.{out-Node};
 ghost use Rattle.ecma_tree.specs.Values.{is_value_where};
+ghost use Rattle.ecma_scope.specs.declared.form.Part.TheVariants as part;
 ghost use Rattle.ecma_scope.specs.Located.{located, located_here};
 ghost use Rattle.ecma_walks.specs.Listing.{listed_within};
-ghost use Rattle.ecma_scope.specs.Declarations.{declared_here, in_default, in_item, in_member, in_name, in_scope, in_var, seek, seek_at, sought_by, sought_in};
+ghost use Rattle.ecma_scope.specs.Declarations.{declared_here, in_default, in_item, in_member, in_name, in_scope, in_var, member_by, seek, seek_at, sought_by, sought_in};
 
 use crate::form::{Declaration, Form, Located, Part, Sought};
-use ecma_tree::{Kind, NoMemory, Node, VarDeclKind, is_value_where};
+use ecma_tree::{JsWord, Kind, NoMemory, Node, VarDeclKind, is_value_where};
 use item_list::ItemList;
 
 fn seek(part: Part, stays: bool) -> Option<Sought>
@@ -209,22 +210,54 @@ pub fn sought_in(sought: Sought, node: &Node, index: usize) -> Option<Sought>
     }
 }
 
+/// Puts what a node itself declares where names are looked for after what is there: an identifier, or a text that is the name of a member.
 #[tactic(auto, unfolding(crate::specs::Declarations::declared_here))]
 fn push_here(sought: Sought, node: &Node, names: &mut ItemList<Located>) -> Result<(), NoMemory>
     ensures { OnOk result (names.new ≡ names.old ++ located_here sought node.now) }
 {
-    if let Kind::Ident { sym, .. } = &node.kind {
-        if let Part::Name(form) = sought.part {
-            let declaration = Declaration {
-                sym: sym.clone()?,
-                form,
-                stays: sought.stays,
-            };
-            let at = node.span.lo;
-            names.push(Located { declaration, at })?;
-        }
+    let Part::Name(form) = sought.part else {
+        return Ok(());
+    };
+    match &node.kind {
+        Kind::Ident { sym, .. } => push_name(sym, form, sought.stays, node.span.lo, names),
+        Kind::Str { value, .. } => push_text(value, form, sought.stays, node.span.lo, names),
+        _ => Ok(()),
     }
+}
+
+/// Puts a declaration after those that are there.
+fn push_name(
+    name: &JsWord,
+    form: Form,
+    stays: bool,
+    at: u32,
+    names: &mut ItemList<Located>,
+) -> Result<(), NoMemory>
+    ensures { OnOk result (names.new ≡ names.old ++ record { declaration = record { sym = name.now; form = form; stays = stays }; at = at } ∷ []) }
+{
+    let declaration = Declaration {
+        sym: name.clone()?,
+        form,
+        stays,
+    };
+    names.push(Located { declaration, at })?;
     Ok(())
+}
+
+/// The same of a text, which is a name of a member alone.
+fn push_text(
+    text: &JsWord,
+    form: Form,
+    stays: bool,
+    at: u32,
+    names: &mut ItemList<Located>,
+) -> Result<(), NoMemory>
+    ensures { OnOk result (names.new ≡ names.old ++ map (λ d. record { declaration = d; at = at }) (member_by (part.Name form) text.now stays)) }
+{
+    match form {
+        Form::Member => push_name(text, form, stays, at, names),
+        _ => Ok(()),
+    }
 }
 
 /// Puts the declarations in a child after those that are there, if something is looked for in it.

@@ -179,7 +179,7 @@ pub fn opens(role: Role, node: &Node) -> bool
     }
 }
 
-/// Whether the child at an index stands in the scope that its parent opens.
+/// Whether the child at an index stands in the scope that its parent opens; of a member of an enum its name alone stands in the scope of that name.
 #[tactic(auto, unfolding(crate::specs::Scopes::covers))]
 pub fn covers(role: Role, kind: &Kind, index: usize) -> bool
     ensures { result ≡ covers role kind.now index }
@@ -190,6 +190,7 @@ pub fn covers(role: Role, kind: &Kind, index: usize) -> bool
         Kind::SwitchStmt => index != 0,
         Kind::ClassDecl { .. } => index != 0,
         Kind::TsEnumDecl { .. } => index != 0,
+        Kind::TsEnumMember => index == 0,
         Kind::ClassExpr => !(is_default(role) && index == 0),
         _ => true,
     }

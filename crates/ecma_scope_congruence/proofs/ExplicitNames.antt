@@ -22,6 +22,7 @@ use Rattle.ecma_scope.specs.declared.form.Part.TheVariants as part
 use Rattle.ecma_scope.specs.declared.form.Sought.{Sought}
 use Rattle.ecma_scope.specs.Declarations.{declarations, declared_here, declared_step, found_at, found_in, holds_vars, is_own, names, own_part, sought_by, sought_in, vars_of}
 use Rattle.ecma_scope.specs.Scopes.{is_ambient}
+use Rattle.ecma_scope.specs.Shown.{is_enum, visible_names}
 use Rattle.ecma_scope_congruence.specs.Bodies.{AllHaveBodies, HasBodies, is_function_expression, more, none, with_bodies}
 use Rattle.ecma_scope_congruence.proofs.Looking.{Blind, BlindAt, children_blind, is_entering, loose_declares_none, loose_holds_none, loose_is_value, parentheses_are_value, parentheses_declare_none, parentheses_hold_none, spot_at}
 use Rattle.ecma_tree.specs.Values.{holds_ambient, is_function, is_value, is_value_where, value_by}
@@ -147,7 +148,7 @@ at_kept n spot None kept blind = refl
 at_kept n spot (Some sought) kept blind = kept sought blind
 
 mutual
-  found_kept : {n : Node} → HasBodies n → (spot : Spot) → Fits spot → (sought : Sought) → Blind sought spot → declarations (standing n spot) sought ≡ declarations n sought
+  pub found_kept : {n : Node} → HasBodies n → (spot : Spot) → Fits spot → (sought : Sought) → Blind sought spot → declarations (standing n spot) sought ≡ declarations n sought
   found_kept (with_bodies at k {ns} full all) spot fits sought blind =
       ap (λ n. declarations n sought) (stands_in at k ns spot)
       ∙ found_by_cases at k ns spot fits sought blind
@@ -176,3 +177,8 @@ pub names_kept : (r : Role) (around : List ℕ → Option Bool) (at : Span) (k :
 names_kept r around at k {ns} all spot fits =
     ap (filter (is_own r around))
     (ap₂ (λ a b. a ++ b) (found_bare at k all spot fits (record { part = own_part r; stays = not (is_ambient r) })) (vars_kept r (not (is_ambient r)) at k all spot fits))
+
+pub visible_kept : (r : Role) (around : List ℕ → Option Bool) (at : Span) (k : Kind) {ns : List Node} → AllHaveBodies ns → (spot : Spot) → Fits spot
+    → visible_names r around (bare' at k ns spot) ≡ visible_names r around (node_of at k ns)
+visible_kept r around at k {ns} all spot fits =
+    ap₂ (λ kind (found : List Declaration). cond (is_enum kind) [] found) (kind_of_node at k (spotted k ns spot) ∙ sym (kind_of_node at k ns)) (names_kept r around at k all spot fits)

@@ -4,6 +4,7 @@ pub mod Resolved
 mod Looking
 mod Roles
 mod ExplicitNames
+mod ExplicitShown
 mod ExplicitCounts
 pub mod ExplicitContexts
 mod SpanConflicts

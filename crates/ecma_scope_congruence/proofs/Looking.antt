@@ -139,6 +139,7 @@ parentheses_hold_none (part.Name f) stays value i = refl
 pub loose_declares_none : (sought : Sought) (k : Kind) → is_misreadable k ≡ true → declared_here sought k ≡ []
 unfolding declared_here
 loose_declares_none sought (kind.Ident sym ctxt optional) h = absurd (cc)
+loose_declares_none sought (kind.Str text raw) h = absurd (cc)
 loose_declares_none sought _ h = refl
 
 pub parentheses_declare_none : (sought : Sought) → declared_here sought kind.ParenExpr ≡ []

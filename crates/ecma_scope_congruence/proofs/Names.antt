@@ -13,6 +13,9 @@ use Rattle.ecma_scope.specs.declared.form.Part.TheVariants as part
 use Rattle.ecma_scope.specs.declared.form.Sought.{Sought}
 use Rattle.ecma_scope.specs.Declarations.{declarations, declared_here, declared_step, found_at, found_in, holds_vars, is_own, names, own_part, sought_by, sought_in, vars_of}
 use Rattle.ecma_scope.specs.Scopes.{is_ambient}
+use Rattle.ecma_scope.specs.Shown.{is_enum, is_export, is_member, text_by, visible_names}
+use Rattle.ecma_scope.proofs.ShownAlike.{AllSameNames, SameFirst, changed-alike, first-changed, same_names}
+use Rattle.ecma_tree.specs.Sorted.{is_list}
 use Rattle.ecma_scope_congruence.proofs.Bare.{bare-children, bare-kind}
 
 -- values
@@ -80,3 +83,20 @@ vars-bare r stays n = ap₂ (λ k found. cond (holds_vars r k) found []) (bare-k
 pub names-bare : (r : Role) (around : List ℕ → Option Bool) (n : Node) → names r around (without_spans n) ≡ names r around n
 names-bare r around n =
     ap (filter (is_own r around)) (ap₂ (λ a b. a ++ b) (declarations-bare n (record { part = own_part r; stays = not (is_ambient r) })) (vars-bare r (not (is_ambient r)) n))
+
+pub visible-bare : (r : Role) (around : List ℕ → Option Bool) (n : Node) → visible_names r around (without_spans n) ≡ visible_names r around n
+visible-bare r around n = ap₂ (λ k (found : List Declaration). cond (is_enum k) [] found) (bare-kind n) (names-bare r around n)
+
+-- what is shown to the children of a node declares the same
+module _ (n : Node) where
+  pub items-bare : is_list (out-Node n).kind ≡ true → AllSameNames (out-Node n).children (out-Node (without_spans n)).children
+  items-bare listed =
+      subst (AllSameNames (out-Node n).children) (sym (bare-children n))
+      (changed-alike declarations declarations same_names refl (λ xs ys. refl) without_spans bare-children (λ m. ap is_member (bare-kind m)) (λ m. ap is_export (bare-kind m)) (λ m. ap is_enum (bare-kind m))
+      (λ m. ap text_by (bare-kind m)) declarations-bare (out-Node n).children)
+
+  pub first-bare : is_member (out-Node n).kind ≡ true → SameFirst (out-Node n).children (out-Node (without_spans n)).children
+  first-bare member =
+      subst (SameFirst (out-Node n).children) (sym (bare-children n))
+      (first-changed declarations declarations same_names refl (λ xs ys. refl) without_spans bare-children (λ m. ap is_member (bare-kind m)) (λ m. ap is_export (bare-kind m)) (λ m. ap is_enum (bare-kind m))
+      (λ m. ap text_by (bare-kind m)) declarations-bare (out-Node n).children)

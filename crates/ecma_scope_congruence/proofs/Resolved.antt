@@ -1,5 +1,5 @@
 -- The tree with its contexts is the same up to spans.
-use Rattle.std.proofs.Common.{◌≡◌, ◌∙◌, ℕ, suc, ◌+◌, ◌-◌, List, [], ◌∷◌, ◌++◌, ◌&&◌, map, not, cond, refl, sym, ap, ap₂, subst}
+use Rattle.std.proofs.Common.{◌≡◌, ◌∙◌, ℕ, zero, suc, ◌+◌, ◌-◌, List, [], ◌∷◌, ◌++◌, ◌&&◌, map, not, cond, refl, sym, ap, ap₂, subst}
 use Rattle.ecma_tree.specs.declared.node.Node.{Node, Node-F, fold-roll-Node, ind-Node, out-Node, roll-Node}
 use Rattle.ecma_tree.specs.declared.node.Node.TheViews.{out-roll-Node}
 use Rattle.ecma_tree.specs.Nodes.{dummy_span, node_of}
@@ -7,11 +7,15 @@ use Rattle.ecma_tree.specs.Spans.{unplaced, without_spans}
 use Rattle.ecma_scope.specs.declared.role.Role.{Role}
 use Rattle.ecma_scope.specs.declared.role.Role.TheVariants as role
 use Rattle.ecma_scope.specs.Declarations.{stated}
-use Rattle.ecma_scope.specs.Resolved.{Place, context_count, contexts, count_step, counted, innermost, inside, kind_at, nowhere, placed, resolve_step, resolved, resolved_at, scope_at, taken}
+use Rattle.ecma_scope.specs.Resolved.{Place, context_count, context_of, contexts, count_step, counted, innermost, inside, kind_at, left_for, nowhere, placed, resolve_step, resolved, resolved_at, scope_at, shown_scopes, taken, waiting_scopes}
+use Rattle.ecma_scope.specs.Shown as origin
+use Rattle.ecma_scope.specs.Shown.{Origin, is_enum, is_export, is_member}
+use Rattle.ecma_scope.proofs.ShownAlike.{shown_scopes-alike, waiting_scopes-alike}
+use Rattle.ecma_tree.specs.Sorted.{is_list}
 use Rattle.ecma_scope.specs.Scopes.{covers, is_root, role_in}
 use Rattle.ecma_scope_congruence.specs.Laws.{SpansDoNotMatterToContexts}
 use Rattle.ecma_scope_congruence.proofs.Bare.{bare, bare-children, bare-kind, opens-bare, role-bare}
-use Rattle.ecma_scope_congruence.proofs.Names.{names-bare}
+use Rattle.ecma_scope_congruence.proofs.Names.{first-bare, items-bare, visible-bare}
 use Rattle.ecma_tree.proofs.Layers.{from_leaves_out}
 
 -- how many contexts
@@ -42,17 +46,38 @@ node-counted n all r =
 pub count-bare : (n : Node) → Counted n
 count-bare = ind-Node Counted (λ x y is. node-counted (roll-Node x) (subst (λ (z : Node-F Node). AllCounted z.children) (is ∙ sym (out-roll-Node x)) (all-counted y.children)))
 
+left-bare : (f g : ℕ → Role) → ((i : ℕ) → f i ≡ g i) → (k : ℕ) (ns : List Node) (left i : ℕ) → left_for f k (map without_spans ns) left i ≡ left_for g k ns left i
+left-bare f g same k [] left i = refl
+left-bare f g same k (n ∷ ns) left zero = refl
+left-bare f g same k (n ∷ ns) left (suc i) =
+    ap (λ less. left_for f (suc k) (map without_spans ns) (left - less) i) (count-bare n (f k) ∙ ap (context_count n) (same k)) ∙ left-bare f g same (suc k) ns (left - context_count n (g k)) i
+
 -- places
 
 module _ (unresolved top : ℕ) where
   scope-bare : (place : Place) (n : Node) (left : ℕ) → scope_at top place (without_spans n) left ≡ scope_at top place n left
-  scope-bare place n left = ap (λ ds. record { ctxt = cond (is_root place.role) top left; states = stated ds }) (names-bare place.role (innermost place.scopes) n)
+  scope-bare place n left = ap (λ ds. record { ctxt = cond (is_root place.role) top left; states = stated ds }) (visible-bare place.role (innermost place.scopes) n)
+
+  context-bare : (place : Place) (n : Node) (left : ℕ) (o : Origin) → context_of top place (without_spans n) left o ≡ context_of top place n left o
+  context-bare place n left origin.innermost = refl
+  context-bare place n left (origin.enum_at i exported) =
+      (λ j. left_for (role_in place.role (without_spans n)) 0 (bare-children n j) (left - taken-bare place.role n j) i)
+      ∙ left-bare (role_in place.role (without_spans n)) (role_in place.role n) (role-bare place.role n) 0 (out-Node n).children (left - taken place.role n) i
+
+  shows-bare : (place : Place) (n : Node) (left i : ℕ) → shown_scopes top place (without_spans n) left i ≡ shown_scopes top place n left i
+  shows-bare place n left i =
+      shown_scopes-alike top place place n (without_spans n) left left i refl (ap is_list (bare-kind n)) (items-bare n) (context-bare place n left) (ap is_member (bare-kind n)) (first-bare n)
+
+  waits-bare : (place : Place) (n : Node) (left i : ℕ) → waiting_scopes top place (without_spans n) left i ≡ waiting_scopes top place n left i
+  waits-bare place n left i =
+      waiting_scopes-alike top place place n (without_spans n) left left i refl (ap is_list (bare-kind n)) (items-bare n) (context-bare place n left) (ap is_export (bare-kind n)) refl
 
   inside-bare : (place : Place) (n : Node) (left i : ℕ) → inside top place (without_spans n) left i ≡ inside top place n left i
   inside-bare place n left i =
       λ j. record {
         role = role-bare place.role n i j;
-        scopes = cond (opens-bare place.role n j && covers place.role (bare-kind n j) i) (place.scopes ++ scope-bare place n left j ∷ []) place.scopes;
+        scopes = cond (opens-bare place.role n j && covers place.role (bare-kind n j) i) (place.scopes ++ cond (is_enum (bare-kind n j)) place.waiting [] ++ scope-bare place n left j ∷ []) place.scopes ++ shows-bare place n left i j;
+        waiting = waits-bare place n left i j;
       }
 
   abbrev at : Node → Place → ℕ → Node
