@@ -10,3 +10,5 @@ mod writing;
 pub use laws::{answered_trees_keep_their_sorts, without_answers_nothing_changes};
 pub use query::QueryRef;
 pub use rewriter::RefRewriter;
+pub use seat::Seat;
+pub use writing::{answer_of, stands_for};

@@ -64,7 +64,7 @@ fn ask<T: QueryRef>(
 }
 
 /// The name that a node is, and what stands for it, if anything does.
-fn answer_of<T: QueryRef>(
+pub fn answer_of<T: QueryRef>(
     alloc: Global,
     query: &T,
     seat: Seat,
@@ -176,7 +176,7 @@ fn in_seat<T: QueryRef>(
 
 /// What is written in the place of a node for whose name an expression stands.
 #[tactic(auto, unfolding(crate::specs::References::stands_for))]
-fn stands_for<T: QueryRef>(
+pub fn stands_for<T: QueryRef>(
     alloc: Global,
     query: &T,
     seat: Seat,

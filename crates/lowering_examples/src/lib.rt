@@ -10,4 +10,6 @@ mod exporting;
 #[cfg(test)]
 mod lowering;
 #[cfg(test)]
+mod namespaces;
+#[cfg(test)]
 mod programs;
